@@ -1,0 +1,3 @@
+pub mod Table
+pub mod Order
+pub mod Answers

@@ -1,0 +1,69 @@
+use mathlib.Core.Path.{_≡_, refl, sym, ap, _∙_}
+use mathlib.Core.List.{_++_}
+use Prim.Native.Nat.{_-_, _≤_, _<_}
+use native.Mathlib.Omega.{arith}
+use native.Mathlib.Nat.{le-antisymm}
+use lib.ListN.{length, take, drop, length-set}
+use lib.Seq.{take-length}
+use denote.Ref.{now}
+use Rattle.wire.specs.Copying.{onto}
+use Rattle.wire.proofs.Copies.{store-more}
+use borrow.Author.Needs.{needs}
+use mathlib.Core.Path.{sym}
+use Rattle.wire.proofs.copying.copy_front.Statement.{statement}
+use Rattle.wire.proofs.copying.copy_front.Tie as tie
+
+abbrev Inv-loop : tie.InvT-loop
+Inv-loop dst₀ src i₀ dst i = (i ≤ length src) × ((dst ≡ take i src ++ drop i dst₀) × (length dst ≡ length dst₀))
+
+abbrev μ-loop : tie.MeasureT-loop
+μ-loop dst₀ src i₀ dst i = length src - i
+
+loop-holds : tie.Need-loop-holds Inv-loop μ-loop
+loop-holds c = search needs
+
+shared-slice-read-dst : tie.Need-shared-slice-read-dst Inv-loop μ-loop
+shared-slice-read-dst c = search needs
+
+slice-write-dst : tie.Need-slice-write-dst Inv-loop μ-loop
+slice-write-dst c = search needs
+
+add-i : tie.Need-add-i Inv-loop μ-loop
+add-i c = search needs
+
+loop-less : tie.Need-loop-less Inv-loop μ-loop
+loop-less c = search needs
+
+loop-again : tie.Need-loop-again Inv-loop μ-loop
+loop-again c =
+    let at-loop = c .before .before in
+    let at-start = at-loop .before in
+    let h : at-loop .loop .i < length (now (at-start .args .dst)) = omega arith in (
+      search needs,
+      (rw (at-loop .loop .inv .1 .0) (store-more (now (at-start .args .src)) (now (at-start .args .dst)) (at-loop .loop .i) (c .before .loop-test .taken) h), search needs),
+    )
+
+same-length : tie.Need-same-length Inv-loop μ-loop
+same-length c = search needs
+
+returns : tie.Need-returns Inv-loop μ-loop
+unfolding onto
+returns c =
+    let at-loop = c .before in
+    let e : at-loop .loop .i ≡ length (now (at-loop .before .args .src)) = omega arith in
+    at-loop .loop .inv .1 .0 ∙ rw (e, take-length)
+
+pub copy-front-spec : {M : Type 1} → statement M
+copy-front-spec =
+    tie.close
+    (tie.spec
+    Inv-loop
+    μ-loop
+    loop-holds
+    shared-slice-read-dst
+    slice-write-dst
+    add-i
+    loop-less
+    loop-again
+    same-length
+    returns)

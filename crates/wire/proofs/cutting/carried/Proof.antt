@@ -1,0 +1,25 @@
+-- `carried` meets its contract: the smaller of the room and of what is left.
+use borrow.Author.Needs.{needs}
+use Rattle.wire.specs.Cutting.{carries}
+use Rattle.wire.proofs.cutting.carried.Statement.{statement}
+use Rattle.wire.proofs.cutting.carried.Tie as tie
+
+begins-at-requires : tie.Need-begins-at-requires
+begins-at-requires c κs = search needs
+
+sub-left : tie.Need-sub-left
+sub-left c = search needs
+
+room-for-requires : tie.Need-room-for-requires
+room-for-requires c κs = search needs
+
+returns : tie.Need-returns
+unfolding carries
+returns c = search needs
+
+returns-2 : tie.Need-returns-2
+unfolding carries
+returns-2 c = search needs
+
+pub carried-spec : {M : Type 1} → statement M
+carried-spec = tie.close (tie.spec begins-at-requires sub-left room-for-requires returns returns-2)

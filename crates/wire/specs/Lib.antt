@@ -1,0 +1,3 @@
+pub mod Copying
+pub mod Cutting
+pub mod Packet
