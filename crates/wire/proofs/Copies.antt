@@ -41,3 +41,7 @@ part-onto at bytes buffer ys h e =
     let none : drop (length buffer - at) (drop at buffer) ≡ [] =
       drop-of-length-le (drop at buffer) {i = length buffer - at} (simp length-drop (omega arith)) in
     simp (e, none, full, drop-drop, append-nil)
+
+-- a part lent from a place to the end is what stands there
+pub to-the-end : (s : List ℕ) (a : ℕ) → take (length s - a) (drop a s) ≡ drop a s
+to-the-end s a = take-all (length s - a) (drop a s) (omega (arith, length-drop a s))

@@ -7,7 +7,7 @@ ghost use Prim.Native.Nat.{_+_, _≤_, _<_};
 ghost use mathlib.Core.List.{[], _∷_, _++_};
 ghost use lib.ListN.{length};
 ghost use Rattle.wire.specs.Copying.{onto, overwrite};
-ghost use Rattle.wire.specs.Packet.{packets, bytes4, bytes2, filled, channelOf, lengthOf, packetOf, errorOn, initReply};
+ghost use Rattle.wire.specs.Packet.{packets, bytes4, bytes2, filled, channelOf, commandOf, lengthOf, numberOf, packetOf, errorOn, initReply};
 
 // Every packet has 64 bytes; an opening packet has room for 57 bytes of payload, a continuation for 59.
 pub const SIZE: usize = 64;
@@ -45,12 +45,32 @@ pub fn channel_of(packet: &[u8]) -> Channel
     Channel((high * 256 + wide(packet[2])) * 256 + wide(packet[3]))
 }
 
+// Byte 4 of an opening packet, minus 128: the command.
+pub fn command_of(packet: &[u8]) -> u8
+    requires { ⌜ 64 ≤ length (now packet) ⌝ }
+    ensures { λ r. ⌜ r ≡ commandOf (now (packet .entry)) ⌝ }
+{
+    let byte4 = packet[4];
+    if byte4 < 128 {
+        return 0;
+    }
+    byte4 - 128
+}
+
 // Bytes 5 and 6 of an opening packet: the message's length.
 pub fn length_of(packet: &[u8]) -> usize
     requires { ⌜ 64 ≤ length (now packet) ⌝ }
     ensures { λ r. ⌜ r ≡ lengthOf (now (packet .entry)) ⌝ }
 {
     size(packet[5]) * 256 + size(packet[6])
+}
+
+// Byte 4 of a continuation: its number.
+pub fn number_of(packet: &[u8]) -> usize
+    requires { ⌜ 64 ≤ length (now packet) ⌝ }
+    ensures { λ r. ⌜ (r ≡ numberOf (now (packet .entry))) × (r < 256) ⌝ }
+{
+    size(packet[4])
 }
 
 // How many packets a message of n bytes needs.
