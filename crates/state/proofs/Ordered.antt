@@ -1,17 +1,17 @@
 -- What a state in order is known to be: refusal 7's tests, taken apart. Assumes nothing.
 use Prim.Native.Nat.{ℕ, _≤_, _<_}
-use mathlib.Core.Path.{_≡_, refl, sym, ap, _∙_}
-use mathlib.Core.Bool.{Bool, true, false, _||_}
+use mathlib.Core.Path.{_≡_}
+use mathlib.Core.Bool.{true}
 use native.Mathlib.Omega.{arith}
-use lib.Dec.{leb, ltb, eqb}
+use lib.Dec.{eqb}
 use borrow.Author.Tests.{leb-true, ltb-true, eqb-true}
 use Rattle.wire.specs.declared.Channel.{Channel}
 use Rattle.wire.specs.Packet.{longest, ping, cbor, packets}
 use Rattle.state.specs.declared.Phase.{Phase}
-use Rattle.state.specs.declared.Phase.the-variants.{Idle, Gathering, Waiting, Answering}
+use Rattle.state.specs.declared.Phase.the-variants.{Gathering, Answering}
 use Rattle.state.specs.declared.State.{State}
 use Rattle.state.specs.Table.{cases, all-head, all-tail}
-use Rattle.state.specs.Order.{channels, gatheringTime, known, starts, toCore, messageInOrder, phaseInOrder, inOrder}
+use Rattle.state.specs.Order.{channels, gatheringTime, known, starts, messageInOrder, phaseInOrder, inOrder}
 
 -- at most 65,535 channels
 pub count-in-order : (s : State) → inOrder s ≡ true → s .given ≤ channels

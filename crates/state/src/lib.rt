@@ -4,7 +4,6 @@ use wire::Channel;
 pub mod order;
 pub mod outcomes;
 
-
 // The number of a request that is handed to the core. It is never interchangeable with a channel's.
 pub struct Ticket(pub u32);
 

@@ -55,7 +55,13 @@ fn phase_in_order(given: u32, f: Phase) -> bool
 {
     match f {
         Phase::Idle => true,
-        Phase::Gathering { holder, command, size, done, left } => {
+        Phase::Gathering {
+            holder,
+            command,
+            size,
+            done,
+            left,
+        } => {
             if message_in_order(given, holder, command, size, done) {
                 if 1 <= done {
                     if 1 <= left {
@@ -65,7 +71,11 @@ fn phase_in_order(given: u32, f: Phase) -> bool
             }
             false
         }
-        Phase::Waiting { holder, command, size } => {
+        Phase::Waiting {
+            holder,
+            command,
+            size,
+        } => {
             if is_known(given, holder) {
                 if size <= packet::LONGEST {
                     return goes_to_core(command);
@@ -73,9 +83,12 @@ fn phase_in_order(given: u32, f: Phase) -> bool
             }
             false
         }
-        Phase::Answering { holder, command, size, done } => {
-            message_in_order(given, holder, command, size, done)
-        }
+        Phase::Answering {
+            holder,
+            command,
+            size,
+            done,
+        } => { message_in_order(given, holder, command, size, done) }
     }
 }
 

@@ -10,11 +10,17 @@ ghost use Rattle.table.specs.Opening.{same, ifHolder, standingOf, isOthe
 
 // The error codes of document 01.
 pub const INVALID_COMMAND: u8 = 0x01;
+
 pub const INVALID_LENGTH: u8 = 0x03;
+
 pub const INVALID_NUMBER: u8 = 0x04;
+
 pub const TIME_OUT: u8 = 0x05;
+
 pub const BUSY: u8 = 0x06;
+
 pub const INVALID_CHANNEL: u8 = 0x0B;
+
 pub const OTHER: u8 = 0x7F;
 
 const BROADCAST: u32 = 0xFFFFFFFF;
@@ -122,13 +128,24 @@ pub fn stands(f: Phase, c: Channel) -> Standing
 {
     match f {
         Phase::Idle => Standing::Free,
-        Phase::Gathering { holder, command: _, size: _, done: _, left: _ } => {
-            if_holder(holder, c, Standing::Gathers)
-        }
-        Phase::Waiting { holder, command: _, size: _ } => if_holder(holder, c, Standing::Waits),
-        Phase::Answering { holder, command: _, size: _, done: _ } => {
-            if_holder(holder, c, Standing::Answers)
-        }
+        Phase::Gathering {
+            holder,
+            command: _,
+            size: _,
+            done: _,
+            left: _,
+        } => { if_holder(holder, c, Standing::Gathers) }
+        Phase::Waiting {
+            holder,
+            command: _,
+            size: _,
+        } => if_holder(holder, c, Standing::Waits),
+        Phase::Answering {
+            holder,
+            command: _,
+            size: _,
+            done: _,
+        } => { if_holder(holder, c, Standing::Answers) }
     }
 }
 

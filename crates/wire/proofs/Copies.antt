@@ -1,7 +1,7 @@
 -- Laws of copies into a buffer. Assumes nothing.
-use mathlib.Core.Path.{_≡_, refl, sym, ap, _∙_}
-use mathlib.Core.List.{List, [], _∷_, _++_, append-nil}
 use Prim.Native.Nat.{ℕ, zero, suc, _+_, _-_, _≤_, _<_}
+use mathlib.Core.Path.{_≡_, refl, ap}
+use mathlib.Core.List.{List, [], _∷_, _++_, append-nil}
 use native.Mathlib.Nat.{not-suc-le-zero, le-of-suc-le-suc}
 use native.Mathlib.Numerals.{add-one}
 use native.Mathlib.Omega.{arith}
@@ -37,9 +37,9 @@ pub part-onto : (at : ℕ) (bytes buffer ys : List ℕ) → at + length bytes �
 unfolding onto overwrite
 part-onto at bytes buffer ys h e =
     let full : take (length buffer - at) (drop at buffer) ≡ drop at buffer =
-      take-all (length buffer - at) (drop at buffer) (simp length-drop (omega arith)) in
+    take-all (length buffer - at) (drop at buffer) (simp length-drop (omega arith)) in
     let none : drop (length buffer - at) (drop at buffer) ≡ [] =
-      drop-of-length-le (drop at buffer) {i = length buffer - at} (simp length-drop (omega arith)) in
+    drop-of-length-le (drop at buffer) {i = length buffer - at} (simp length-drop (omega arith)) in
     simp (e, none, full, drop-drop, append-nil)
 
 -- a part lent from a place to the end is what stands there

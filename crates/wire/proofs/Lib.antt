@@ -1,3 +1,5 @@
 pub mod Copies
 pub mod Cuts
 pub mod Packets
+pub mod Roundtrips
+pub mod Readings

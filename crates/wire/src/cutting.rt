@@ -48,7 +48,14 @@ pub fn carried(first: usize, later: usize, n: usize, k: usize) -> usize
 }
 
 // The payload of packet k, copied into the free part of the buffer, which starts where the last payload ended.
-pub fn put_payload(first: usize, later: usize, n: usize, k: usize, payload: &[u8], buffer: &mut [u8])
+pub fn put_payload(
+    first: usize,
+    later: usize,
+    n: usize,
+    k: usize,
+    payload: &[u8],
+    buffer: &mut [u8],
+)
     requires { ⌜ (begins first later k ≤ n) × (n ≤ 65535) × (carries first later n k ≤ length (now payload)) × (n ≤ length (now buffer)) ⌝ }
     ensures { λ _. ⌜ now (buffer .exit) ≡ put first later n k (now (payload .entry)) (now (buffer .entry)) ⌝ }
 {

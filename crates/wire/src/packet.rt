@@ -11,7 +11,9 @@ ghost use Rattle.wire.specs.Packet.{packets, bytes4, bytes2, filled, cha
 
 // Every packet has 64 bytes; an opening packet has room for 57 bytes of payload, a continuation for 59.
 pub const SIZE: usize = 64;
+
 pub const FIRST: usize = 57;
+
 pub const LATER: usize = 59;
 
 // Numbers run 0, 1, .. 127, so the longest message is 57 + 128 x 59 bytes.
@@ -19,9 +21,13 @@ pub const LONGEST: usize = 7609;
 
 // The commands that a header may name.
 pub const PING: u8 = 0x01;
+
 pub const INIT: u8 = 0x06;
+
 pub const CBOR: u8 = 0x10;
+
 pub const CANCEL: u8 = 0x11;
+
 const ERROR: u8 = 0x3F;
 
 fn wide(b: u8) -> u32

@@ -1,89 +1,66 @@
+-- `decide_known` meets its contract: each way out rewrites the table by the tests that led there, so that it computes to its row.
+use mathlib.Core.Path.{sym}
+use borrow.Author.Tests.{ne-eqb}
+use borrow.Author.Needs.{needs}
 use Rattle.state.specs.Table.{_⇒_else_}
 use Rattle.table.specs.Opening.{openingRows}
-use borrow.Author.Tests.{le-ltb, lt-ltb, le-leb, lt-leb, eq-eqb, ne-eqb}
-use mathlib.Core.Path.{sym}
-use borrow.Author.Needs.{needs}
 use Rattle.table.proofs.decide_known.Statement.{statement}
 use Rattle.table.proofs.decide_known.Tie as tie
-use Rattle.table.proofs.decide_known.Reads as reads
-use Rattle.table.proofs.decide_known.Lts as lts
-use Rattle.state.proofs.order.opens_one.Reads as opens-one-reads
-use Rattle.table.proofs.Standing.gathers.Reads as gathers-reads
-use Rattle.table.proofs.Standing.holds.Reads as holds-reads
-use Rattle.table.proofs.Standing.is_other.Reads as is-other-reads
-use Rattle.table.proofs.Standing.waits.Reads as waits-reads
-use Rattle.table.proofs.has_bad_length.Reads as has-bad-length-reads
 
--- src/lib.rt:176:12
 waits-requires : tie.Need-waits-requires
 waits-requires c κs = search needs
 
--- src/lib.rt:177:13
 returns : tie.Need-returns
 unfolding openingRows _⇒_else_
 returns c = simp (c .if2 .taken, sym (c .before .waits .ensures), c .before .before .if1 .taken, c .before .before .before .pre .0, c .before .before .before .pre .1)
 
--- src/lib.rt:179:9
 returns-2 : tie.Need-returns-2
 unfolding openingRows _⇒_else_
 returns-2 c = simp (c .if2 .left, sym (c .before .waits .ensures), c .before .before .if1 .taken, c .before .before .before .pre .0, c .before .before .before .pre .1)
 
--- src/lib.rt:181:8
 is-other-requires : tie.Need-is-other-requires
 is-other-requires c κs = search needs
 
--- src/lib.rt:182:9
 returns-3 : tie.Need-returns-3
 unfolding openingRows _⇒_else_
 returns-3 c = simp (c .if3 .taken, sym (c .before .is-other .ensures), ne-eqb _ _ (c .before .before .if1 .left), c .before .before .before .pre .0, c .before .before .before .pre .1)
 
--- src/lib.rt:186:13
 returns-4 : tie.Need-returns-4
 unfolding openingRows _⇒_else_
-returns-4 c = simp (ne-eqb _ _ (c .if5 .taken), c .before .if4 .taken, c .before .before .if3 .left, sym (c .before .before .before .is-other .ensures), ne-eqb _ _ (c .before .before .before .before .if1 .left), c .before .before .before .before .before .pre .0, c .before .before .before .before .before .pre .1)
+returns-4 c = simp (ne-eqb _ _ (c .if5 .taken), c .before .if4 .taken, c .before .before .if3 .left, sym (c .before .before .before .is-other .ensures), c .before .before .before .before .before .pre .0, c .before .before .before .before .before .pre .1)
 
--- src/lib.rt:188:9
 returns-5 : tie.Need-returns-5
 unfolding openingRows _⇒_else_
-returns-5 c = simp (c .if5 .left, c .before .if4 .taken, c .before .before .if3 .left, sym (c .before .before .before .is-other .ensures), ne-eqb _ _ (c .before .before .before .before .if1 .left), c .before .before .before .before .before .pre .0, c .before .before .before .before .before .pre .1)
+returns-5 c = simp (c .if5 .left, c .before .if4 .taken, c .before .before .if3 .left, sym (c .before .before .before .is-other .ensures), c .before .before .before .before .before .pre .0, c .before .before .before .before .before .pre .1)
 
--- src/lib.rt:190:8
 gathers-requires : tie.Need-gathers-requires
 gathers-requires c κs = search needs
 
--- src/lib.rt:191:9
 returns-6 : tie.Need-returns-6
 unfolding openingRows _⇒_else_
 returns-6 c = simp (c .if6 .taken, sym (c .before .gathers .ensures), ne-eqb _ _ (c .before .before .if4 .left), c .before .before .before .if3 .left, sym (c .before .before .before .before .is-other .ensures), ne-eqb _ _ (c .before .before .before .before .before .if1 .left), c .before .before .before .before .before .before .pre .0, c .before .before .before .before .before .before .pre .1)
 
--- src/lib.rt:193:8
 holds-requires : tie.Need-holds-requires
 holds-requires c κs = search needs
 
--- src/lib.rt:194:9
 returns-7 : tie.Need-returns-7
 unfolding openingRows _⇒_else_
 returns-7 c = simp (c .if7 .taken, sym (c .before .holds .ensures), c .before .before .if6 .left, sym (c .before .before .before .gathers .ensures), ne-eqb _ _ (c .before .before .before .before .if4 .left), c .before .before .before .before .before .if3 .left, sym (c .before .before .before .before .before .before .is-other .ensures), ne-eqb _ _ (c .before .before .before .before .before .before .before .if1 .left), c .before .before .before .before .before .before .before .before .pre .0, c .before .before .before .before .before .before .before .before .pre .1)
 
--- src/lib.rt:196:8
 opens-one-requires : tie.Need-opens-one-requires
 opens-one-requires c κs = search needs
 
--- src/lib.rt:197:12
 has-bad-length-requires : tie.Need-has-bad-length-requires
 has-bad-length-requires c κs = search needs
 
--- src/lib.rt:198:13
 returns-8 : tie.Need-returns-8
 unfolding openingRows _⇒_else_
 returns-8 c = simp (c .if9 .taken, sym (c .before .has-bad-length .ensures), c .before .before .if8 .taken, sym (c .before .before .before .opens-one .ensures), c .before .before .before .before .if7 .left, sym (c .before .before .before .before .before .holds .ensures), c .before .before .before .before .before .before .if6 .left, sym (c .before .before .before .before .before .before .before .gathers .ensures), ne-eqb _ _ (c .before .before .before .before .before .before .before .before .if4 .left), c .before .before .before .before .before .before .before .before .before .if3 .left, sym (c .before .before .before .before .before .before .before .before .before .before .is-other .ensures), ne-eqb _ _ (c .before .before .before .before .before .before .before .before .before .before .before .if1 .left), c .before .before .before .before .before .before .before .before .before .before .before .before .pre .0, c .before .before .before .before .before .before .before .before .before .before .before .before .pre .1)
 
--- src/lib.rt:200:9
 returns-9 : tie.Need-returns-9
 unfolding openingRows _⇒_else_
 returns-9 c = simp (c .if9 .left, sym (c .before .has-bad-length .ensures), c .before .before .if8 .taken, sym (c .before .before .before .opens-one .ensures), c .before .before .before .before .if7 .left, sym (c .before .before .before .before .before .holds .ensures), c .before .before .before .before .before .before .if6 .left, sym (c .before .before .before .before .before .before .before .gathers .ensures), ne-eqb _ _ (c .before .before .before .before .before .before .before .before .if4 .left), c .before .before .before .before .before .before .before .before .before .if3 .left, sym (c .before .before .before .before .before .before .before .before .before .before .is-other .ensures), ne-eqb _ _ (c .before .before .before .before .before .before .before .before .before .before .before .if1 .left), c .before .before .before .before .before .before .before .before .before .before .before .before .pre .0, c .before .before .before .before .before .before .before .before .before .before .before .before .pre .1)
 
--- src/lib.rt:171:1
 returns-10 : tie.Need-returns-10
 unfolding openingRows _⇒_else_
 returns-10 c = simp (c .if8 .left, sym (c .before .opens-one .ensures), c .before .before .if7 .left, sym (c .before .before .before .holds .ensures), c .before .before .before .before .if6 .left, sym (c .before .before .before .before .before .gathers .ensures), ne-eqb _ _ (c .before .before .before .before .before .before .if4 .left), c .before .before .before .before .before .before .before .if3 .left, sym (c .before .before .before .before .before .before .before .before .is-other .ensures), ne-eqb _ _ (c .before .before .before .before .before .before .before .before .before .if1 .left), c .before .before .before .before .before .before .before .before .before .before .pre .0, c .before .before .before .before .before .before .before .before .before .before .pre .1)

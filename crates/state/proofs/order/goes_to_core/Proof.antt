@@ -1,12 +1,9 @@
-use Rattle.state.specs.Order.{toCore}
-use borrow.Author.Tests.{le-ltb, lt-ltb, le-leb, lt-leb, eq-eqb, ne-eqb}
+-- `goes_to_core` meets its contract: the test is the definition.
 use mathlib.Core.Path.{refl}
+use Rattle.state.specs.Order.{toCore}
 use Rattle.state.proofs.order.goes_to_core.Statement.{statement}
 use Rattle.state.proofs.order.goes_to_core.Tie as tie
-use Rattle.state.proofs.order.goes_to_core.Reads as reads
-use Rattle.state.proofs.order.goes_to_core.Lts as lts
 
--- src/order.rt:34:1
 returns : tie.Need-returns
 unfolding toCore
 returns c = refl

@@ -1,90 +1,68 @@
-use Rattle.state.specs.Table.{_⇒_else_, last-test}
-use Rattle.state.specs.Table.{all}
-use Rattle.state.specs.Order.{phaseInOrder}
-use borrow.Author.Tests.{le-ltb, lt-ltb, le-leb, lt-leb, eq-eqb, ne-eqb}
+-- `phase_in_order` meets its contract: the definition's list of each phase, test by test.
 use mathlib.Core.Path.{sym}
+use borrow.Author.Tests.{le-leb, lt-leb}
 use borrow.Author.Needs.{needs}
+use Rattle.state.specs.Table.{_⇒_else_, last-test, all}
+use Rattle.state.specs.Order.{phaseInOrder}
 use Rattle.state.proofs.order.phase_in_order.Statement.{statement}
 use Rattle.state.proofs.order.phase_in_order.Tie as tie
-use Rattle.state.proofs.order.phase_in_order.Reads as reads
-use Rattle.state.proofs.order.phase_in_order.Lts as lts
-use Rattle.state.proofs.order.goes_to_core.Reads as goes-to-core-reads
-use Rattle.state.proofs.order.is_known.Reads as is-known-reads
-use Rattle.state.proofs.order.message_in_order.Reads as message-in-order-reads
 
--- src/order.rt:57:24
 enum-told : tie.Need-enum-told
 enum-told c = search needs
 
--- src/order.rt:58:28
 enum-known-f : tie.Need-enum-known-f
 enum-known-f c = search needs
 
--- src/order.rt:59:16
 message-in-order-requires : tie.Need-message-in-order-requires
 message-in-order-requires c κs = search needs
 
--- src/order.rt:62:25
 returns : tie.Need-returns
 unfolding phaseInOrder all _⇒_else_
-returns c = simp (last-test, le-leb _ _ (c .if3 .taken), le-ltb _ _ (c .if3 .taken), le-leb _ _ (c .before .if2 .taken), le-ltb _ _ (c .before .if2 .taken), c .before .before .if1 .taken, sym (c .before .before .before .message-in-order .ensures), c .before .before .before .before .before .f .given .1)
+returns c = simp (last-test, le-leb _ _ (c .if3 .taken), le-leb _ _ (c .before .if2 .taken), c .before .before .if1 .taken, sym (c .before .before .before .message-in-order .ensures), c .before .before .before .before .before .f .given .1)
 
--- src/order.rt:68:26
 enum-known-f-2 : tie.Need-enum-known-f-2
 enum-known-f-2 c = search needs
 
--- src/order.rt:69:16
 is-known-requires : tie.Need-is-known-requires
 is-known-requires c κs = search needs
 
--- src/order.rt:71:21
 goes-to-core-requires : tie.Need-goes-to-core-requires
 goes-to-core-requires c κs = search needs
 
--- src/order.rt:71:21
 returns-2 : tie.Need-returns-2
 unfolding phaseInOrder all _⇒_else_
-returns-2 c = simp (last-test, sym (c .goes-to-core .ensures), le-leb _ _ (c .before .if5 .taken), le-ltb _ _ (c .before .if5 .taken), c .before .before .if4 .taken, sym (c .before .before .before .is-known .ensures), c .before .before .before .before .before .f2 .given .1)
+returns-2 c = simp (last-test, sym (c .goes-to-core .ensures), le-leb _ _ (c .before .if5 .taken), c .before .before .if4 .taken, sym (c .before .before .before .is-known .ensures), c .before .before .before .before .before .f2 .given .1)
 
--- src/order.rt:76:28
 enum-known-f-3 : tie.Need-enum-known-f-3
 enum-known-f-3 c = search needs
 
--- src/order.rt:77:13
 message-in-order-requires-2 : tie.Need-message-in-order-requires-2
 message-in-order-requires-2 c κs = search needs
 
--- src/order.rt:53:1
 returns-3 : tie.Need-returns-3
 unfolding phaseInOrder all _⇒_else_
 returns-3 c = simp (c .enum-told .given .1)
 
--- src/order.rt:53:1
 returns-4 : tie.Need-returns-4
 unfolding phaseInOrder all _⇒_else_
-returns-4 c = simp (lt-ltb _ _ (c .if3 .left), lt-leb _ _ (c .if3 .left), le-leb _ _ (c .before .if2 .taken), le-ltb _ _ (c .before .if2 .taken), c .before .before .if1 .taken, sym (c .before .before .before .message-in-order .ensures), c .before .before .before .before .before .f .given .1)
+returns-4 c = simp (lt-leb _ _ (c .if3 .left), le-leb _ _ (c .before .if2 .taken), c .before .before .if1 .taken, sym (c .before .before .before .message-in-order .ensures), c .before .before .before .before .before .f .given .1)
 
--- src/order.rt:53:1
 returns-5 : tie.Need-returns-5
 unfolding phaseInOrder all _⇒_else_
-returns-5 c = simp (lt-ltb _ _ (c .if2 .left), lt-leb _ _ (c .if2 .left), c .before .if1 .taken, sym (c .before .before .message-in-order .ensures), c .before .before .before .before .f .given .1)
+returns-5 c = simp (lt-leb _ _ (c .if2 .left), c .before .if1 .taken, sym (c .before .before .message-in-order .ensures), c .before .before .before .before .f .given .1)
 
--- src/order.rt:53:1
 returns-6 : tie.Need-returns-6
 unfolding phaseInOrder all _⇒_else_
 returns-6 c = simp (c .if1 .left, sym (c .before .message-in-order .ensures), c .before .before .before .f .given .1)
 
--- src/order.rt:53:1
 returns-7 : tie.Need-returns-7
 unfolding phaseInOrder all _⇒_else_
-returns-7 c = simp (lt-ltb _ _ (c .if5 .left), lt-leb _ _ (c .if5 .left), c .before .if4 .taken, sym (c .before .before .is-known .ensures), c .before .before .before .before .f2 .given .1)
+returns-7 c = simp (lt-leb _ _ (c .if5 .left), c .before .if4 .taken, sym (c .before .before .is-known .ensures), c .before .before .before .before .f2 .given .1)
 
--- src/order.rt:53:1
 returns-8 : tie.Need-returns-8
 unfolding phaseInOrder all _⇒_else_
 returns-8 c = simp (c .if4 .left, sym (c .before .is-known .ensures), c .before .before .before .f2 .given .1)
 
--- src/order.rt:53:1
 returns-9 : tie.Need-returns-9
 unfolding phaseInOrder all _⇒_else_
 returns-9 c = simp (sym (c .message-in-order2 .ensures), c .before .before .f3 .given .1)

@@ -1,6 +1,7 @@
+-- `copy_at` meets its contract: what comes back of the free part, its front written, is the buffer with the bytes in their place.
 use denote.Ref.{now}
-use Rattle.wire.proofs.Copies.{part-onto}
 use borrow.Author.Needs.{needs}
+use Rattle.wire.proofs.Copies.{part-onto}
 use Rattle.wire.proofs.copying.copy_at.Statement.{statement}
 use Rattle.wire.proofs.copying.copy_at.Tie as tie
 

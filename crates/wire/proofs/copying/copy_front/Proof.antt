@@ -1,15 +1,14 @@
-use mathlib.Core.Path.{_≡_, refl, sym, ap, _∙_}
-use mathlib.Core.List.{_++_}
+-- `copy_front` meets its contract: after i turns the first i bytes are src's and the others are as they were.
 use Prim.Native.Nat.{_-_, _≤_, _<_}
+use mathlib.Core.Path.{_≡_, _∙_}
+use mathlib.Core.List.{_++_}
 use native.Mathlib.Omega.{arith}
-use native.Mathlib.Nat.{le-antisymm}
-use lib.ListN.{length, take, drop, length-set}
+use lib.ListN.{length, take, drop}
 use lib.Seq.{take-length}
 use denote.Ref.{now}
+use borrow.Author.Needs.{needs}
 use Rattle.wire.specs.Copying.{onto}
 use Rattle.wire.proofs.Copies.{store-more}
-use borrow.Author.Needs.{needs}
-use mathlib.Core.Path.{sym}
 use Rattle.wire.proofs.copying.copy_front.Statement.{statement}
 use Rattle.wire.proofs.copying.copy_front.Tie as tie
 

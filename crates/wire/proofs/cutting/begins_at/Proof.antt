@@ -1,6 +1,6 @@
 -- `begins_at` meets its contract: the definition at k and at the code's k - 1 say the same, and the bound asked for is the sum's own.
-use borrow.Author.Needs.{needs}
 use native.Mathlib.Omega.{arith}
+use borrow.Author.Needs.{needs}
 use Rattle.wire.specs.Cutting.{begins}
 use Rattle.wire.proofs.Cuts.{begins-later}
 use Rattle.wire.proofs.cutting.begins_at.Statement.{statement}

@@ -1,9 +1,9 @@
 -- `packets_needed` meets its contract: a message that the first packet holds leaves less than `later` to divide.
-use borrow.Author.Needs.{needs}
-use mathlib.Core.Path.{_≡_}
 use Prim.Native.Nat.{_+_, _-_, pred}
+use mathlib.Core.Path.{_≡_}
 use native.Mathlib.Nat.{div-eq-of-lt, div-le-self}
 use native.Mathlib.Omega.{arith}
+use borrow.Author.Needs.{needs}
 use Rattle.wire.specs.Cutting.{packetsNeeded}
 use Rattle.wire.proofs.cutting.packets_needed.Statement.{statement}
 use Rattle.wire.proofs.cutting.packets_needed.Tie as tie

@@ -1,8 +1,8 @@
 -- `put_payload` meets its contract: the copy goes where the last payload ended, and what the packet carries fits there.
-use borrow.Author.Needs.{needs}
-use mathlib.Core.Path.{_≡_, sym}
+use mathlib.Core.Path.{sym}
 use native.Mathlib.Omega.{arith}
 use lib.ListN.{length-take}
+use borrow.Author.Needs.{needs}
 use Rattle.wire.specs.Cutting.{put}
 use Rattle.wire.proofs.Cuts.{carries-within}
 use Rattle.wire.proofs.cutting.put_payload.Statement.{statement}
@@ -28,10 +28,11 @@ same-length c = search needs
 returns : tie.Need-returns
 unfolding put
 returns c =
-    simp
-    (c .before .before .copy-at .ensures,
-    sym (c .before .before .before .before .before .before .begins-at .ensures),
-    sym (c .before .before .before .before .before .carried .ensures))
+    simp (
+      c .before .before .copy-at .ensures,
+      sym (c .before .before .before .before .before .before .begins-at .ensures),
+      sym (c .before .before .before .before .before .carried .ensures),
+    )
 
 pub put-payload-spec : {M : Type 1} → statement M
 put-payload-spec =

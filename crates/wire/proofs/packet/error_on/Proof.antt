@@ -1,22 +1,17 @@
+-- `error_on` meets its contract: it is the one packet of a message of one byte.
 use native.Mathlib.Omega.{arith}
+use borrow.Author.Needs.{needs}
 use Rattle.wire.specs.Packet.{errorOn}
 use Rattle.wire.proofs.Packets.{at-least-1}
-use borrow.Author.Needs.{needs}
 use Rattle.wire.proofs.packet.error_on.Statement.{statement}
 use Rattle.wire.proofs.packet.error_on.Tie as tie
-use Rattle.wire.proofs.packet.error_on.Reads as reads
-use Rattle.wire.proofs.packet.error_on.Lts as lts
-use Rattle.wire.proofs.packet.packet_of.Reads as packet-of-reads
 
--- src/packet.rt:111:31
 slice-aggregate-packet-of : tie.Need-slice-aggregate-packet-of
 slice-aggregate-packet-of c = search needs
 
--- src/packet.rt:111:5
 packet-of-requires : tie.Need-packet-of-requires
 packet-of-requires c κs = (omega arith, omega arith, omega arith, at-least-1 1)
 
--- src/packet.rt:107:1
 returns : tie.Need-returns
 unfolding errorOn
 returns c = c .packet-of .ensures

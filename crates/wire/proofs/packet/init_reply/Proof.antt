@@ -1,99 +1,75 @@
+-- `init_reply` meets its contract: the nonce over the front of the content, which computes, is the definition's message of 17 bytes.
+use mathlib.Core.Path.{_≡_, ap, _∙_}
 use native.Mathlib.Omega.{arith}
+use lib.ListN.{length, take, drop, length-take, length-drop}
+use denote.Ref.{now}
+use borrow.Author.Needs.{needs}
 use Rattle.wire.specs.Packet.{bytes4, channelOf, packetOf, initReply}
 use Rattle.wire.specs.declared.Channel.{Channel}
 use Rattle.wire.proofs.Copies.{overwrite-length}
-use mathlib.Core.Path.{_≡_, ap, _∙_}
-use lib.ListN.{length, take, drop, length-take, length-drop}
-use denote.Ref.{now}
 use Rattle.wire.proofs.Packets.{at-least-1, nonce-over}
-use borrow.Author.Needs.{needs}
 use Rattle.wire.proofs.packet.init_reply.Statement.{statement}
 use Rattle.wire.proofs.packet.init_reply.Tie as tie
-use Rattle.wire.proofs.packet.init_reply.Reads as reads
-use Rattle.wire.proofs.packet.init_reply.Lts as lts
-use Rattle.wire.proofs.copying.copy_at.Reads as copy-at-reads
-use Rattle.wire.proofs.packet.channel_of.Reads as channel-of-reads
-use Rattle.wire.proofs.packet.packet_of.Reads as packet-of-reads
 
--- src/packet.rt:121:18
 cast-content : tie.Need-cast-content
 cast-content c = search needs
 
--- src/packet.rt:121:5
 array-write-content : tie.Need-array-write-content
 array-write-content c = search needs
 
--- src/packet.rt:122:18
 cast-content-2 : tie.Need-cast-content-2
 cast-content-2 c = search needs
 
--- src/packet.rt:122:5
 array-write-content-2 : tie.Need-array-write-content-2
 array-write-content-2 c = search needs
 
--- src/packet.rt:123:19
 cast-content-3 : tie.Need-cast-content-3
 cast-content-3 c = search needs
 
--- src/packet.rt:123:5
 array-write-content-3 : tie.Need-array-write-content-3
 array-write-content-3 c = search needs
 
--- src/packet.rt:124:19
 cast-content-4 : tie.Need-cast-content-4
 cast-content-4 c = search needs
 
--- src/packet.rt:124:5
 array-write-content-4 : tie.Need-array-write-content-4
 array-write-content-4 c = search needs
 
--- src/packet.rt:125:5
 array-write-content-5 : tie.Need-array-write-content-5
 array-write-content-5 c = search needs
 
--- src/packet.rt:126:5
 array-write-content-6 : tie.Need-array-write-content-6
 array-write-content-6 c = search needs
 
--- src/packet.rt:127:5
 array-write-content-7 : tie.Need-array-write-content-7
 array-write-content-7 c = search needs
 
--- src/packet.rt:128:22
 slice-aggregate-copy-at : tie.Need-slice-aggregate-copy-at
 slice-aggregate-copy-at c = search needs
 
--- src/packet.rt:128:39
 sub-copy-at : tie.Need-sub-copy-at
 sub-copy-at c = search needs
 
--- src/packet.rt:128:39
 part-copy-at-start : tie.Need-part-copy-at-start
 part-copy-at-start c = search needs
 
--- src/packet.rt:128:39
 part-copy-at-end : tie.Need-part-copy-at-end
 part-copy-at-end c = search needs
 
--- src/packet.rt:128:5
 copy-at-requires : tie.Need-copy-at-requires
 copy-at-requires c κs = search needs
 
--- src/packet.rt:129:15
 channel-of-requires : tie.Need-channel-of-requires
 channel-of-requires c κs = search needs
 
--- src/packet.rt:129:48
 slice-aggregate-packet-of : tie.Need-slice-aggregate-packet-of
 slice-aggregate-packet-of c = search needs
 
--- src/packet.rt:129:5
 packet-of-requires : tie.Need-packet-of-requires
-packet-of-requires c κs = 
+packet-of-requires c κs =
     let l : length (take 8 (drop 7 (now (c .before .before .before .before .before .before .before .args .packet)))) ≡ 8 = simp (length-take, length-drop) (omega arith) in
     (omega arith, omega arith, omega (arith, ap length (c .before .before .before .copy-at .ensures) ∙ overwrite-length 0 _ _ (rw l (omega arith))), at-least-1 17)
 
--- src/packet.rt:115:1
 returns : tie.Need-returns
 unfolding initReply bytes4
 returns c =

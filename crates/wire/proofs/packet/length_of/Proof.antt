@@ -1,36 +1,27 @@
-use Rattle.wire.specs.Packet.{lengthOf}
+-- `length_of` meets its contract: the bytes, widened, are the definition's.
 use borrow.Author.Needs.{needs}
+use Rattle.wire.specs.Packet.{lengthOf}
 use Rattle.wire.proofs.packet.length_of.Statement.{statement}
 use Rattle.wire.proofs.packet.length_of.Tie as tie
-use Rattle.wire.proofs.packet.length_of.Reads as reads
-use Rattle.wire.proofs.packet.length_of.Lts as lts
-use Rattle.wire.proofs.packet.size.Reads as size-reads
 
--- src/packet.rt:53:10
 shared-slice-read-size : tie.Need-shared-slice-read-size
 shared-slice-read-size c = search needs
 
--- src/packet.rt:53:5
 size-requires : tie.Need-size-requires
 size-requires c κs = search needs
 
--- src/packet.rt:53:5
 mul-result : tie.Need-mul-result
 mul-result c = search needs
 
--- src/packet.rt:53:34
 shared-slice-read-size-2 : tie.Need-shared-slice-read-size-2
 shared-slice-read-size-2 c = search needs
 
--- src/packet.rt:53:29
 size-requires-2 : tie.Need-size-requires-2
 size-requires-2 c κs = search needs
 
--- src/packet.rt:53:5
 add-result : tie.Need-add-result
 add-result c = search needs
 
--- src/packet.rt:49:1
 returns : tie.Need-returns
 unfolding lengthOf
 returns c = simp (c .size2 .ensures .0, c .before .before .size .ensures .0)

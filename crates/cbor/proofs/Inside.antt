@@ -1,0 +1,131 @@
+-- An array or a map that was read whole has each of its items whole, one where the last ended, and they end where it ends. And what was read
+-- in a part of the message holds of the message.
+use Prim.Native.Nat.{ℕ, zero, suc, _+_, _-_, _≤_}
+use mathlib.Core.Path.{_≡_, refl, sym, ap, subst, _∙_}
+use mathlib.Core.List.{List, []}
+use mathlib.Core.Bool.{Bool, true, false}
+use native.Mathlib.Omega.{arith}
+use lib.ListN.{length, drop}
+use lib.Seq.{drop-drop}
+use Rattle.cbor.specs.Choice.{if_then_else_}
+use Rattle.cbor.specs.Head.{headOf}
+use Rattle.cbor.specs.Order.{keyBefore}
+use Rattle.cbor.specs.Item.{part, countedFrom, readAt, andThen, byHead, keyOf, nextKeyOf, elementsOf, entriesOf, itemOf}
+use Rattle.cbor.specs.declared.head.Kind.the-variants.{Array, Map}
+use Rattle.cbor.specs.declared.head.Head.the-variants.{Of}
+use Rattle.cbor.specs.declared.Item.{Item}
+use Rattle.cbor.specs.declared.Item.the-variants.{Len, Fault}
+use Rattle.cbor.proofs.Items.{Within, Bounded, elements-within, entries-within}
+
+pub fault-len : {A : Type 0} {p n : ℕ} → Fault p ≡ Len n → A
+fault-len e = let z : _≡_ {A = ℕ} 0 1 = cc in absurd (omega arith)
+
+pub len-len : {m n : ℕ} → Len m ≡ Len n → m ≡ n
+len-len e = cc
+
+-- What was read at a place, as the part that begins there has it.
+pub read-part : (f : List ℕ → Item) (s : List ℕ) (at end : ℕ) → readAt f s at ≡ Len end → (at ≤ end) × (f (drop at s) ≡ Len (end - at))
+unfolding readAt countedFrom
+read-part f s at end e = go (f (drop at s)) e
+  where
+    go : (x : Item) → countedFrom at x ≡ Len end → (at ≤ end) × (x ≡ Len (end - at))
+    go (Len k) h = let i : at + k ≡ end = len-len h in (omega arith, ap Len (omega arith))
+    go (Fault p) h = fault-len h
+
+-- The contents of an array and of a map, by the head.
+module _ (levels : ℕ) (s : List ℕ) (v l : ℕ) {x : Item} (e : itemOf (suc levels) s ≡ x) where
+  pub array-inside : headOf s ≡ Of Array v l → elementsOf (itemOf levels) v s l ≡ x
+  unfolding itemOf byHead
+  array-inside h = rw h at e
+
+  pub map-inside : headOf s ≡ Of Map v l → entriesOf (itemOf levels) v s [] l ≡ x
+  unfolding itemOf byHead
+  map-inside h = rw h at e
+
+-- The items of an array, one by one.
+pub record NextItem (f : List ℕ → Item) (s : List ℕ) (end n at : ℕ) : Type 0 where
+  pub next : ℕ
+  pub item : readAt f s at ≡ Len next
+  pub run : elementsOf f n s next ≡ Len end
+
+module _ (f : List ℕ → Item) (s : List ℕ) (end : ℕ) where
+  pub next-item : (n at : ℕ) → elementsOf f (suc n) s at ≡ Len end → NextItem f s end n at
+  unfolding elementsOf andThen
+  next-item n at e = go (readAt f s at) refl e
+    where
+      go : (x : Item) → readAt f s at ≡ x → andThen x (λ next. elementsOf f n s next) ≡ Len end → NextItem f s end n at
+      go (Len next) g h = record { next = next; item = g; run = h }
+      go (Fault p) g h = fault-len h
+
+  pub items-end : (at : ℕ) → elementsOf f zero s at ≡ Len end → at ≡ end
+  unfolding elementsOf
+  items-end at e = len-len e
+
+  pub items-fit : Bounded f → (n at : ℕ) → at ≤ length s → elementsOf f n s at ≡ Len end → (at ≤ end) × (end ≤ length s)
+  items-fit t n at h e = subst (λ (x : Item). Within at (length s) x) e (elements-within f t n s at h)
+
+-- The entries of a map, one by one.
+pub record NextEntry (f : List ℕ → Item) (s : List ℕ) (end n : ℕ) (prev : List ℕ) (at : ℕ) : Type 0 where
+  pub mid : ℕ
+  pub next : ℕ
+  pub key : readAt keyOf s at ≡ Len mid
+  pub order : keyBefore prev (part s at mid) ≡ true
+  pub value : readAt f s mid ≡ Len next
+  pub run : entriesOf f n s (part s at mid) next ≡ Len end
+
+module _ (f : List ℕ → Item) (s : List ℕ) (end : ℕ) where
+  pub next-entry : (n : ℕ) (prev : List ℕ) (at : ℕ) → entriesOf f (suc n) s prev at ≡ Len end → NextEntry f s end n prev at
+  unfolding entriesOf nextKeyOf andThen
+  next-entry n prev at e = go (readAt keyOf s at) refl e
+    where
+      by-value : (mid : ℕ) → readAt keyOf s at ≡ Len mid → keyBefore prev (part s at mid) ≡ true → (x : Item) → readAt f s mid ≡ x → andThen x (λ next. entriesOf f n s (part s at mid) next) ≡ Len end → NextEntry f s end n prev at
+      by-value mid k o (Len next) g h = record { mid = mid; next = next; key = k; order = o; value = g; run = h }
+      by-value mid k o (Fault p) g h = fault-len h
+
+      by-order : (mid : ℕ) → readAt keyOf s at ≡ Len mid → (t : Bool) → keyBefore prev (part s at mid) ≡ t → andThen (if t then Len mid else Fault at) (λ m. andThen (readAt f s m) (λ next. entriesOf f n s (part s at m) next)) ≡ Len end → NextEntry f s end n prev at
+      by-order mid k true o h = by-value mid k o (readAt f s mid) refl h
+      by-order mid k false o h = fault-len h
+
+      go : (x : Item) → readAt keyOf s at ≡ x → andThen (andThen x (λ mid. if keyBefore prev (part s at mid) then Len mid else Fault at)) (λ m. andThen (readAt f s m) (λ next. entriesOf f n s (part s at m) next)) ≡ Len end → NextEntry f s end n prev at
+      go (Len mid) g h = by-order mid g (keyBefore prev (part s at mid)) refl h
+      go (Fault p) g h = fault-len h
+
+  pub entries-end : (prev : List ℕ) (at : ℕ) → entriesOf f zero s prev at ≡ Len end → at ≡ end
+  unfolding entriesOf
+  entries-end prev at e = len-len e
+
+  pub entries-fit : Bounded f → (n : ℕ) (prev : List ℕ) (at : ℕ) → at ≤ length s → entriesOf f n s prev at ≡ Len end → (at ≤ end) × (end ≤ length s)
+  entries-fit t n prev at h e = subst (λ (x : Item). Within at (length s) x) e (entries-within f t n s prev at h)
+
+-- What was read in the part that begins at a, said of the whole.
+module _ (f : List ℕ → Item) (s : List ℕ) (a : ℕ) where
+  pub read-shift : (at n : ℕ) → readAt f (drop a s) at ≡ Len n → readAt f s (a + at) ≡ Len (a + n)
+  unfolding readAt countedFrom
+  read-shift at n e = go (f (drop (a + at) s)) (rw (drop-drop at a s) at e)
+    where
+      go : (x : Item) → countedFrom at x ≡ Len n → countedFrom (a + at) x ≡ Len (a + n)
+      go (Len k) g = ap Len (omega (arith, len-len g))
+      go (Fault p) g = fault-len g
+
+pub part-shift : (s : List ℕ) (a at mid : ℕ) → part (drop a s) at mid ≡ part s (a + at) (a + mid)
+part-shift s a at mid =
+    let e : mid - at ≡ a + mid - (a + at) = omega arith in
+    rw (drop-drop at a s, e)
+
+module _ (f : List ℕ → Item) (s : List ℕ) (a end : ℕ) where
+  pub items-shift : (n at : ℕ) → elementsOf f n (drop a s) at ≡ Len end → elementsOf f n s (a + at) ≡ Len (a + end)
+  unfolding elementsOf andThen
+  items-shift zero at e = ap (λ (k : ℕ). Len (a + k)) (len-len e)
+  items-shift (suc n) at e =
+      let w = next-item f (drop a s) end n at e in
+      rw (read-shift f s a at (w .next) (w .item)) (items-shift n (w .next) (w .run))
+
+  pub entries-shift : (n : ℕ) (prev : List ℕ) (at : ℕ) → entriesOf f n (drop a s) prev at ≡ Len end → entriesOf f n s prev (a + at) ≡ Len (a + end)
+  unfolding entriesOf nextKeyOf andThen
+  entries-shift zero prev at e = ap (λ (k : ℕ). Len (a + k)) (len-len e)
+  entries-shift (suc n) prev at e =
+      let w = next-entry f (drop a s) end n prev at e in
+      let p = sym (part-shift s a at (w .mid)) in
+      let o = ap (keyBefore prev) p ∙ w .order in
+      let r = ap (λ (k : List ℕ). entriesOf f n s k (a + w .next)) p ∙ entries-shift n (part (drop a s) at (w .mid)) (w .next) (w .run) in
+      rw (read-shift keyOf s a at (w .mid) (w .key), o, read-shift f s a (w .mid) (w .next) (w .value)) r

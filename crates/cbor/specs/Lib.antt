@@ -1,0 +1,7 @@
+-- The rules are `Bytes`, `Head`, `Order` and `Item`, in the order of document 01. `Answer` is how the crate's own functions hand them on.
+pub mod Choice
+pub mod Bytes
+pub mod Head
+pub mod Order
+pub mod Item
+pub mod Answer

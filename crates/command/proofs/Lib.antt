@@ -1,0 +1,6 @@
+mod Runs
+mod Pass
+mod Arguments
+mod Same
+mod Values
+pub mod Answers

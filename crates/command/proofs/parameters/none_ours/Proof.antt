@@ -1,0 +1,28 @@
+-- The definition's cases.
+use mathlib.Core.Path.{_≡_, refl}
+use mathlib.Core.Bool.{Bool, true, false, not}
+use borrow.Author.Needs.{needs}
+use Rattle.command.specs.declared.parameters.Command.the-variants.{MakeCredential}
+use Rattle.command.specs.Pass.{soFar}
+use Rattle.command.specs.Check.{noneOurs}
+use Rattle.command.proofs.parameters.none_ours.Statement.{statement}
+use Rattle.command.proofs.parameters.none_ours.Tie as tie
+
+make : (t : Bool) → not t ≡ noneOurs MakeCredential (soFar t)
+make true = refl
+make false = refl
+
+enum-told : tie.Need-enum-told
+enum-told c = search needs
+
+enum-told-2 : tie.Need-enum-told-2
+enum-told-2 c = search needs
+
+returns : tie.Need-returns
+returns c = rw (c .enum-told .given .1) (make (c .before .before .args .ours))
+
+returns-2 : tie.Need-returns-2
+returns-2 c = search needs
+
+pub none-ours-spec : {M : Type 1} → statement M
+none-ours-spec = tie.close (tie.spec enum-told enum-told-2 returns returns-2)

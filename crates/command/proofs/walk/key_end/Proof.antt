@@ -1,0 +1,59 @@
+-- What is read in the part that begins at a place, said of the whole message.
+use mathlib.Core.Path.{sym, ap}
+use native.Mathlib.Omega.{arith}
+use borrow.Author.Needs.{needs}
+use Rattle.cbor.specs.Item.{keyOf}
+use Rattle.cbor.proofs.Items.{found, missed, found-within, key-within}
+use Rattle.command.specs.Pass.{endOf}
+use Rattle.command.proofs.walk.key_end.Statement.{statement}
+use Rattle.command.proofs.walk.key_end.Tie as tie
+
+sub-read-key : tie.Need-sub-read-key
+sub-read-key c = search needs
+
+part-read-key-start : tie.Need-part-read-key-start
+part-read-key-start c = search needs
+
+part-read-key-end : tie.Need-part-read-key-end
+part-read-key-end c = search needs
+
+read-key-requires : tie.Need-read-key-requires
+read-key-requires c κs = search needs
+
+enum-known-found : tie.Need-enum-known-found
+enum-known-found c = search needs
+
+add-result : tie.Need-add-result
+add-result c = let a = c .before .before .before .before .before .before .args in
+    let s = a .msg .now in
+    let f = keyOf in
+    omega (arith, found-within f s (a .at) (c .before .before .before .read-key .ensures) (key-within) _ (c .before .found .given .1))
+
+enum-told : tie.Need-enum-told
+enum-told c = search needs
+
+returns : tie.Need-returns
+returns c = let a = c .before .before .before .before .before .before .args in
+    let s = a .msg .now in
+    let f = keyOf in
+    sym (ap (endOf s) (found f s (a .at) (c .before .before .before .read-key .ensures) _ (c .before .found .given .1)))
+
+returns-2 : tie.Need-returns-2
+returns-2 c = let a = c .before .before .before .before .before .args in
+    let s = a .msg .now in
+    let f = keyOf in
+    sym (ap (endOf s) (missed f s (a .at) (c .before .before .read-key .ensures) _ (c .enum-told .given .1)))
+
+pub key-end-spec : {M : Type 1} → statement M
+key-end-spec =
+    tie.close
+    (tie.spec
+    sub-read-key
+    part-read-key-start
+    part-read-key-end
+    read-key-requires
+    enum-known-found
+    add-result
+    enum-told
+    returns
+    returns-2)

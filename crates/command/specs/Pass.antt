@@ -1,0 +1,54 @@
+-- What the code's own functions answer where it goes another way than the definitions: one pass over the entries, by the first byte of each key.
+use Prim.Native.Nat.{ℕ}
+use mathlib.Core.List.{List, [], _∷_}
+use mathlib.Core.Bool.{Bool, true, false}
+use lib.ListN.{length}
+use lib.Dec.{eqb, ltb}
+use Rattle.cbor.specs.Choice.{if_then_else_}
+use Rattle.cbor.specs.declared.Item.{Item}
+use Rattle.cbor.specs.declared.Item.the-variants.{Len, Fault}
+use Rattle.command.specs.declared.Checked.{Checked}
+use Rattle.command.specs.declared.Checked.the-variants.{Refused}
+use Rattle.command.specs.declared.algorithms.Value.{Value}
+use Rattle.command.specs.declared.algorithms.Value.the-variants.{Fine, Ours}
+use Rattle.command.specs.declared.parameters.Command.{Command}
+use Rattle.command.specs.declared.parameters.Command.the-variants.{MakeCredential, GetAssertion}
+use Rattle.command.specs.Status.{missingParameter, unsupportedAlgorithm}
+use Rattle.command.specs.Map.{Entry}
+use Rattle.command.specs.Parameters.{Row, rowsOf, parameterOf}
+use Rattle.command.specs.Check.{noneOurs, shownOf}
+
+-- Where an item ends; the message's end, where there is none.
+abbrev pub endOf : List ℕ → Item → ℕ
+endOf s (Len n) = n
+endOf s (Fault p) = length s
+
+-- No kind: the key is unknown.
+abbrev pub unknown : ℕ
+unknown = 8
+
+-- The kind of the key b.
+unfoldable pub kindIn : ℕ → List Row → ℕ
+kindIn b [] = unknown
+kindIn b (r ∷ rows) = if eqb b (r .key) then r .kind else kindIn b rows
+
+-- An entry whose key begins with the byte b and whose value begins at `at`.
+unfoldable pub knownOf : Command → List ℕ → ℕ → ℕ → Value
+knownOf c s b at = if eqb (kindIn b (rowsOf c)) unknown then Fine else parameterOf c b (kindIn b (rowsOf c)) s at
+
+-- The first key that is not required.
+abbrev pub requiredEnd : Command → ℕ
+requiredEnd MakeCredential = 5
+requiredEnd GetAssertion = 3
+
+-- What no fault has come to, by whether an algorithm of ours was met.
+abbrev pub soFar : Bool → Value
+soFar true = Ours
+soFar false = Fine
+
+-- The answer after the last entry: `wanted` is the lowest key that was not met.
+unfoldable pub finishedOf : Command → List Entry → ℕ → Bool → Checked
+finishedOf c es wanted ours =
+    if ltb wanted (requiredEnd c) then Refused missingParameter
+    else if noneOurs c (soFar ours) then Refused unsupportedAlgorithm
+    else shownOf c es

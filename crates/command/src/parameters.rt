@@ -1,0 +1,250 @@
+// The parameters of MakeCredential and GetAssertion.
+use crate::Checked;
+use crate::algorithms;
+use crate::algorithms::Value;
+use crate::status::INVALID_CBOR;
+use crate::status::INVALID_LENGTH;
+use crate::status::MISSING_PARAMETER;
+use crate::status::UNEXPECTED_TYPE;
+use crate::status::UNSUPPORTED_ALGORITHM;
+use crate::walk;
+use crate::walk::ARRAY;
+use crate::walk::BYTES;
+use crate::walk::Found;
+use crate::walk::MAP;
+use crate::walk::TEXT;
+use crate::walk::UNSIGNED;
+use cbor::Item;
+ghost use mathlib.Core.Path.{_≡_};
+ghost use mathlib.Core.List.{[], _∷_};
+ghost use mathlib.Core.Bool.{true};
+ghost use Prim.Native.Nat.{_<_};
+ghost use lib.ListN.{length};
+ghost use Rattle.cbor.specs.Item.{readAt, itemOf};
+ghost use Rattle.cbor.specs.declared.Item.the-variants.{Len};
+ghost use Rattle.command.specs.Map.{majorAt, bytes, mapAt, valueOf};
+ghost use Rattle.command.specs.Parameters.{rowsOf, hashKey, hashValue, contentOf, throughOf};
+ghost use Rattle.command.specs.Check.{noneOurs, shownOf, settledOf, oneMap, parametersOf};
+ghost use Rattle.command.specs.Pass.{kindIn, knownOf, requiredEnd, soFar, finishedOf};
+
+// A command with parameters.
+pub enum Command {
+    MakeCredential,
+    GetAssertion,
+}
+
+// No kind: the key is unknown.
+const UNKNOWN: u8 = 8;
+
+// The keys of the client data hash, and of the algorithms.
+const MAKE_CREDENTIAL_HASH: u8 = 1;
+
+const GET_ASSERTION_HASH: u8 = 2;
+
+const ALGORITHMS: u8 = 4;
+
+// The kind of a known key, as the table of the command's parameters has it.
+fn kind_of(c: Command, key: u8) -> u8
+    ensures { λ r. ⌜ r ≡ kindIn key (rowsOf c) ⌝ }
+{
+    match c {
+        Command::MakeCredential => match key {
+            1 => BYTES,
+            2 => MAP,
+            3 => MAP,
+            4 => ARRAY,
+            5 => ARRAY,
+            6 => MAP,
+            7 => MAP,
+            8 => BYTES,
+            9 => UNSIGNED,
+            _ => UNKNOWN,
+        },
+        Command::GetAssertion => match key {
+            1 => TEXT,
+            2 => BYTES,
+            3 => ARRAY,
+            4 => MAP,
+            5 => MAP,
+            6 => BYTES,
+            7 => UNSIGNED,
+            _ => UNKNOWN,
+        },
+    }
+}
+
+// The head of 32 bytes.
+const BYTES_32: [u8; 2] = [0x58, 0x20];
+
+// The client data hash.
+fn hash_value(msg: &[u8], at: usize) -> Value
+    requires { ⌜ (at < length (now msg)) × (majorAt (now msg) at ≡ bytes) ⌝ }
+    ensures { λ r. ⌜ r ≡ hashValue (now (msg .entry)) at ⌝ }
+{
+    if walk::byte(msg, at) != BYTES_32[0] {
+        return Value::Wrong(INVALID_LENGTH);
+    }
+    if walk::byte(msg, at + 1) != BYTES_32[1] {
+        return Value::Wrong(INVALID_LENGTH);
+    }
+    Value::Fine
+}
+
+// What a value of the right kind holds.
+fn content(msg: &[u8], c: Command, key: u8, at: usize, end: usize) -> Value
+    requires { ⌜ (readAt (itemOf 3) (now msg) at ≡ Len end) × (majorAt (now msg) at ≡ kindIn key (rowsOf c)) ⌝ }
+    ensures { λ r. ⌜ r ≡ contentOf c key (now (msg .entry)) at ⌝ }
+{
+    match c {
+        Command::MakeCredential => {
+            if key == MAKE_CREDENTIAL_HASH {
+                return hash_value(msg, at);
+            }
+            if key == ALGORITHMS {
+                return algorithms::algorithms(msg, at, end);
+            }
+            Value::Fine
+        }
+        Command::GetAssertion => {
+            if key == GET_ASSERTION_HASH {
+                return hash_value(msg, at);
+            }
+            Value::Fine
+        }
+    }
+}
+
+// The entry whose key begins with this byte and whose value stands from `at` up to `end`.
+fn known(msg: &[u8], c: Command, key: u8, at: usize, end: usize) -> Value
+    requires { ⌜ readAt (itemOf 3) (now msg) at ≡ Len end ⌝ }
+    ensures { λ r. ⌜ r ≡ knownOf c (now (msg .entry)) key at ⌝ }
+{
+    let kind = kind_of(c, key);
+    if kind == UNKNOWN {
+        return Value::Fine;
+    }
+    if walk::major(msg, at) != kind {
+        return Value::Wrong(UNEXPECTED_TYPE);
+    }
+    content(msg, c, key, at, end)
+}
+
+// The first key that is not required.
+fn required_end(c: Command) -> u8
+    ensures { λ r. ⌜ r ≡ requiredEnd c ⌝ }
+{
+    match c {
+        Command::MakeCredential => 5,
+        Command::GetAssertion => 3,
+    }
+}
+
+// Whether an algorithm of ours is asked for and none was met.
+fn none_ours(c: Command, ours: bool) -> bool
+    ensures { λ r. ⌜ r ≡ noneOurs c (soFar ours) ⌝ }
+{
+    match c {
+        Command::MakeCredential => !ours,
+        Command::GetAssertion => false,
+    }
+}
+
+// Where the client data hash begins, with its head.
+fn hash_at(msg: &[u8], c: Command) -> Found
+    requires { ⌜ oneMap (now msg) ≡ true ⌝ }
+    ensures { λ r. ⌜ r ≡ valueOf (hashKey c ∷ []) (mapAt 3 (now (msg .entry)) 1) ⌝ }
+{
+    match c {
+        Command::MakeCredential => {
+            let key = [MAKE_CREDENTIAL_HASH];
+            walk::find(msg, 1, msg.len(), 3, &key)
+        }
+        Command::GetAssertion => {
+            let key = [GET_ASSERTION_HASH];
+            walk::find(msg, 1, msg.len(), 3, &key)
+        }
+    }
+}
+
+// A good command, which shows where its hash begins: after a head of two bytes.
+fn shown(msg: &[u8], c: Command) -> Checked
+    requires { ⌜ oneMap (now msg) ≡ true ⌝ }
+    ensures { λ r. ⌜ r ≡ shownOf c (mapAt 3 (now (msg .entry)) 1) ⌝ }
+{
+    let hash = hash_at(msg, c);
+    match hash {
+        Found::At(p) => Checked::Good(p + 2),
+        Found::Absent => Checked::Refused(MISSING_PARAMETER),
+    }
+}
+
+// The answer after the last entry, where no value was wrong.
+fn finished(msg: &[u8], c: Command, wanted: u8, ours: bool) -> Checked
+    requires { ⌜ oneMap (now msg) ≡ true ⌝ }
+    ensures { λ r. ⌜ r ≡ finishedOf c (mapAt 3 (now (msg .entry)) 1) wanted ours ⌝ }
+{
+    if wanted < required_end(c) {
+        return Checked::Refused(MISSING_PARAMETER);
+    }
+    if none_ours(c, ours) {
+        return Checked::Refused(UNSUPPORTED_ALGORITHM);
+    }
+    shown(msg, c)
+}
+
+// The known keys. Canonical keys rise, so one pass over the entries meets them in their order.
+fn through(msg: &[u8], c: Command) -> Checked
+    requires { ⌜ oneMap (now msg) ≡ true ⌝ }
+    ensures { λ r. ⌜ r ≡ settledOf c (mapAt 3 (now (msg .entry)) 1) (throughOf c (now (msg .entry)) (mapAt 3 (now (msg .entry)) 1) (rowsOf c)) ⌝ }
+{
+    let mut place = walk::inside(msg, 1);
+    let mut wanted = 1;
+    let mut ours = false;
+    while place < msg.len() {
+        let mid = walk::key_end(msg, place);
+        let next = walk::item_end(msg, mid, 3);
+        let key = msg[place];
+        let one = known(msg, c, key, mid, next);
+        match one {
+            Value::Wrong(e) => {
+                return Checked::Refused(e);
+            }
+            Value::Fine => {}
+            Value::Ours => {
+                ours = true;
+            }
+        }
+        if key == wanted {
+            wanted += 1;
+        }
+        place = next;
+    }
+    finished(msg, c, wanted, ours)
+}
+
+// Whether exactly one canonical map follows the command, and nothing after.
+fn one_map(msg: &[u8]) -> bool
+    requires { ⌜ 0 < length (now msg) ⌝ }
+    ensures { λ r. ⌜ r ≡ oneMap (now (msg .entry)) ⌝ }
+{
+    if walk::major(msg, 1) != MAP {
+        return false;
+    }
+    let found = cbor::read_item(&msg[1..], 4);
+    match found {
+        Item::Len(n) => 1 + n == msg.len(),
+        Item::Fault(_) => false,
+    }
+}
+
+// A command that continues with a map.
+pub fn parameters(msg: &[u8], c: Command) -> Checked
+    requires { ⌜ 0 < length (now msg) ⌝ }
+    ensures { λ r. ⌜ r ≡ parametersOf c (now (msg .entry)) ⌝ }
+{
+    if one_map(msg) {
+        through(msg, c)
+    } else {
+        Checked::Refused(INVALID_CBOR)
+    }
+}

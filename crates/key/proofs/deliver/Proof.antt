@@ -1,0 +1,100 @@
+-- `deliver` meets its contract: a refusal by the tests that led there; else the step is that of the phase's row.
+use mathlib.Core.Path.{sym, _∙_}
+use denote.Ref.{now}
+use borrow.Author.Tests.{lt-ltb}
+use borrow.Author.Needs.{needs}
+use Rattle.key.proofs.Rows.{deliver-row}
+use Rattle.machine.specs.Machine.{deliverRows, lent, step}
+use Rattle.state.specs.Table.{_⇒_else_}
+use Rattle.key.proofs.deliver.Statement.{statement}
+use Rattle.key.proofs.deliver.Tie as tie
+
+in-order-requires : tie.Need-in-order-requires
+in-order-requires c κs = search needs
+
+refused-requires : tie.Need-refused-requires
+refused-requires c κs = search needs
+
+returns : tie.Need-returns
+unfolding step lent _⇒_else_
+returns c = simp (c .refused .ensures, lt-ltb _ _ (c .before .if2 .taken), c .before .before .if1 .taken, sym (c .before .before .before .in-order .ensures))
+
+enum-known-f : tie.Need-enum-known-f
+enum-known-f c = search needs
+
+take-delivery-requires : tie.Need-take-delivery-requires
+take-delivery-requires c κs = search needs
+
+enum-told : tie.Need-enum-told
+enum-told c = search needs
+
+refused-requires-2 : tie.Need-refused-requires-2
+refused-requires-2 c κs = search needs
+
+enum-told-2 : tie.Need-enum-told-2
+enum-told-2 c = search needs
+
+refused-requires-3 : tie.Need-refused-requires-3
+refused-requires-3 c κs = search needs
+
+enum-told-3 : tie.Need-enum-told-3
+enum-told-3 c = search needs
+
+refused-requires-4 : tie.Need-refused-requires-4
+refused-requires-4 c κs = search needs
+
+refused-requires-5 : tie.Need-refused-requires-5
+refused-requires-5 c κs = search needs
+
+same-length : tie.Need-same-length
+same-length c = search needs
+
+returns-2 : tie.Need-returns-2
+returns-2 c =
+    let a = c .before .before .before .before .before .before .before .before .before .before .before .before .before .args in
+    rw (deliver-row (a .s) (now (a .message)) _ (sym (c .before .before .before .before .before .before .before .before .before .before .in-order .ensures) ∙ c .before .before .before .before .before .before .before .before .before .if1 .taken) (c .before .before .before .before .before .f .given .1) (a .ticket) (now (a .bytes)) (c .before .before .before .before .before .before .before .before .if2 .left)) (c .before .before .take-delivery .ensures)
+
+returns-3 : tie.Need-returns-3
+unfolding deliverRows
+returns-3 c =
+    let a = c .before .before .before .before .before .before .before .before .before .args in
+    simp (deliver-row (a .s) (now (a .message)) _ (sym (c .before .before .before .before .before .before .in-order .ensures) ∙ c .before .before .before .before .before .if1 .taken) (c .before .enum-told .given .1) (a .ticket) (now (a .bytes)) (c .before .before .before .before .if2 .left), c .refused2 .ensures)
+
+returns-4 : tie.Need-returns-4
+unfolding deliverRows
+returns-4 c =
+    let a = c .before .before .before .before .before .before .before .before .before .args in
+    simp (deliver-row (a .s) (now (a .message)) _ (sym (c .before .before .before .before .before .before .in-order .ensures) ∙ c .before .before .before .before .before .if1 .taken) (c .before .enum-told2 .given .1) (a .ticket) (now (a .bytes)) (c .before .before .before .before .if2 .left), c .refused3 .ensures)
+
+returns-5 : tie.Need-returns-5
+unfolding deliverRows
+returns-5 c =
+    let a = c .before .before .before .before .before .before .before .before .before .args in
+    simp (deliver-row (a .s) (now (a .message)) _ (sym (c .before .before .before .before .before .before .in-order .ensures) ∙ c .before .before .before .before .before .if1 .taken) (c .before .enum-told3 .given .1) (a .ticket) (now (a .bytes)) (c .before .before .before .before .if2 .left), c .refused4 .ensures)
+
+returns-6 : tie.Need-returns-6
+unfolding step lent _⇒_else_
+returns-6 c = simp (c .refused5 .ensures, c .before .if1 .left, sym (c .before .before .in-order .ensures))
+
+pub deliver-spec : {M : Type 1} → statement M
+deliver-spec =
+    tie.close
+    (tie.spec
+    in-order-requires
+    refused-requires
+    returns
+    enum-known-f
+    take-delivery-requires
+    enum-told
+    refused-requires-2
+    enum-told-2
+    refused-requires-3
+    enum-told-3
+    refused-requires-4
+    refused-requires-5
+    same-length
+    returns-2
+    returns-3
+    returns-4
+    returns-5
+    returns-6)

@@ -1,0 +1,60 @@
+-- `take_delivery` meets its contract: each way out rewrites the row by the tests that led there.
+use borrow.Author.Tests.{le-ltb, lt-ltb, eq-eqb, ne-eqb}
+use borrow.Author.Needs.{needs}
+use Rattle.state.specs.Table.{_⇒_else_}
+use Rattle.machine.specs.Machine.{deliverRows}
+use Rattle.key.proofs.take_delivery.Statement.{statement}
+use Rattle.key.proofs.take_delivery.Tie as tie
+
+refused-requires : tie.Need-refused-requires
+refused-requires c κs = search needs
+
+returns : tie.Need-returns
+unfolding deliverRows _⇒_else_
+returns c = simp (c .refused .ensures, ne-eqb _ _ (c .before .if1 .taken))
+
+refused-requires-2 : tie.Need-refused-requires-2
+refused-requires-2 c κs = search needs
+
+returns-2 : tie.Need-returns-2
+unfolding deliverRows _⇒_else_
+returns-2 c = simp (c .refused2 .ensures, c .before .if2 .taken, eq-eqb _ _ (c .before .before .if1 .left))
+
+refused-requires-3 : tie.Need-refused-requires-3
+refused-requires-3 c κs = search needs
+
+returns-3 : tie.Need-returns-3
+unfolding deliverRows _⇒_else_
+returns-3 c = simp (c .refused3 .ensures, lt-ltb _ _ (c .before .if3 .taken), ne-eqb _ _ (c .before .before .if2 .left), eq-eqb _ _ (c .before .before .before .if1 .left))
+
+copy-front-requires : tie.Need-copy-front-requires
+copy-front-requires c κs = search needs
+
+in-phase-requires : tie.Need-in-phase-requires
+in-phase-requires c κs = search needs
+
+quiet-requires : tie.Need-quiet-requires
+quiet-requires c κs = search needs
+
+same-length : tie.Need-same-length
+same-length c = search needs
+
+returns-4 : tie.Need-returns-4
+unfolding deliverRows _⇒_else_
+returns-4 c = simp (c .quiet .ensures, c .before .in-phase .ensures, c .before .before .before .before .copy-front .ensures, le-ltb _ _ (c .before .before .before .before .before .before .if3 .left), ne-eqb _ _ (c .before .before .before .before .before .before .before .if2 .left), eq-eqb _ _ (c .before .before .before .before .before .before .before .before .if1 .left))
+
+pub take-delivery-spec : {M : Type 1} → statement M
+take-delivery-spec =
+    tie.close
+    (tie.spec
+    refused-requires
+    returns
+    refused-requires-2
+    returns-2
+    refused-requires-3
+    returns-3
+    copy-front-requires
+    in-phase-requires
+    quiet-requires
+    same-length
+    returns-4)

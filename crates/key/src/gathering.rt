@@ -1,0 +1,117 @@
+// A payload that a transaction takes, and what a complete message becomes.
+use command::Checked;
+use state::Answer;
+use state::Outcome;
+use state::Phase;
+use state::State;
+use state::Ticket;
+use state::Work;
+use state::outcomes;
+use wire::Channel;
+use wire::cutting;
+use wire::packet;
+ghost use mathlib.Core.Path.{_≡_};
+ghost use mathlib.Core.List.{[]};
+ghost use Prim.Native.Nat.{_≤_, _<_};
+ghost use lib.ListN.{length};
+ghost use Rattle.wire.specs.Cutting.{carries};
+ghost use Rattle.wire.specs.Packet.{packets};
+ghost use Rattle.machine.specs.Machine.{beside, handed, judged, completed, taken};
+ghost use Rattle.machine.specs.Call.{effect, outcomeOf, asked};
+
+// Waiting for the core, with the next ticket, which the call reports.
+fn hand(s: State, holder: Channel, command: u8, size: usize) -> Outcome
+    ensures { λ r. ⌜ r ≡ outcomeOf (beside (s .given) (handed (s .work) holder command size [])) ⌝ }
+{
+    let work = s.work;
+    let last = work.ticket;
+    let ticket = Ticket(std::num::wrapping_add_u32(last.0, 1));
+    let phase = Phase::Waiting {
+        holder,
+        command,
+        size,
+    };
+    let state = State {
+        given: s.given,
+        work: Work { ticket, phase },
+    };
+    Outcome {
+        answer: Answer::Handed(ticket),
+        state,
+    }
+}
+
+// What the check of a command leads to.
+fn judge(
+    s: State,
+    holder: Channel,
+    command: u8,
+    size: usize,
+    found: Checked,
+    message: &mut [u8],
+) -> Outcome
+    requires { ⌜ 7609 ≤ length (now message) ⌝ }
+    ensures { λ r. ⌜ effect r [] (now (message .exit)) ≡ asked [] (beside (s .given) (judged (s .work) holder command size (now (message .entry)) found)) ⌝ }
+{
+    match found {
+        Checked::Refused(status) => {
+            message[0] = status;
+            let phase = Phase::Answering {
+                holder,
+                command,
+                size: 1,
+                done: 0,
+            };
+            outcomes::quiet(outcomes::in_phase(s, phase))
+        }
+        Checked::Info => hand(s, holder, command, size),
+        Checked::Good(_) => hand(s, holder, command, size),
+    }
+}
+
+// The message stands complete in the buffer: PING is answering with its own bytes, CBOR is checked.
+fn complete(s: State, holder: Channel, command: u8, size: usize, message: &mut [u8]) -> Outcome
+    requires { ⌜ (size ≤ 7609) × (7609 ≤ length (now message)) ⌝ }
+    ensures { λ r. ⌜ effect r [] (now (message .exit)) ≡ asked [] (beside (s .given) (completed (s .work) holder command size (now (message .entry)))) ⌝ }
+{
+    if command == packet::PING {
+        let phase = Phase::Answering {
+            holder,
+            command,
+            size,
+            done: 0,
+        };
+        return outcomes::quiet(outcomes::in_phase(s, phase));
+    }
+    let found = command::check(&message[..size]);
+    judge(s, holder, command, size, found, message)
+}
+
+// Packet k's payload is copied; then more is to come, or the message is complete.
+pub fn take_payload(
+    s: State,
+    holder: Channel,
+    command: u8,
+    size: usize,
+    k: usize,
+    left: u32,
+    payload: &[u8],
+    message: &mut [u8],
+) -> Outcome
+    requires { ⌜ (size ≤ 7609) × (k < packets size) × (carries 57 59 size k ≤ length (now payload)) × (7609 ≤ length (now message)) ⌝ }
+    ensures { λ r. ⌜ effect r [] (now (message .exit)) ≡ asked [] (beside (s .given) (taken (s .work) holder command size k left (now (payload .entry)) (now (message .entry)))) ⌝ }
+{
+    cutting::put_payload(packet::FIRST, packet::LATER, size, k, payload, message);
+    let done = k + 1;
+    if done < packet::count(size) {
+        let phase = Phase::Gathering {
+            holder,
+            command,
+            size,
+            done,
+            left,
+        };
+        return outcomes::quiet(outcomes::in_phase(s, phase));
+    }
+    complete(s, holder, command, size, message)
+}

@@ -1,0 +1,110 @@
+// An opening packet: the table decides, and its verdict is carried out.
+use crate::gathering;
+use state::Outcome;
+use state::Phase;
+use state::State;
+use state::order;
+use state::outcomes;
+use table::Verdict;
+use wire::Channel;
+use wire::packet;
+ghost use mathlib.Core.Path.{_≡_};
+ghost use mathlib.Core.Bool.{true};
+ghost use mathlib.Core.List.{[]};
+ghost use Prim.Native.Nat.{_+_, _≤_};
+ghost use lib.ListN.{length};
+ghost use Rattle.wire.specs.Packet.{lengthOf};
+ghost use Rattle.state.specs.Order.{inOrder};
+ghost use Rattle.machine.specs.Machine.{at, carriedOut, opening};
+ghost use Rattle.machine.specs.Call.{effect, asked};
+
+// The answer to CANCEL.
+const KEEPALIVE_CANCEL: u8 = 0x2D;
+
+// The state with one channel more.
+fn one_more(s: State) -> State
+    requires { ⌜ s .given ≤ 65535 ⌝ }
+    ensures { λ r. ⌜ r ≡ at (s .given + 1) (s .work) ⌝ }
+{
+    let work = s.work;
+    State {
+        given: s.given + 1,
+        work,
+    }
+}
+
+// The opening packet's payload is taken.
+fn open_message(s: State, bytes: &[u8], message: &mut [u8]) -> Outcome
+    requires { ⌜ (lengthOf (now bytes) ≤ 7609) × (length (now bytes) ≡ 64) × (7609 ≤ length (now message)) ⌝ }
+    ensures { λ r. ⌜ effect r [] (now (message .exit)) ≡ asked [] (carriedOut Verdict.Opened s (now (message .entry)) (now (bytes .entry))) ⌝ }
+{
+    let c = packet::channel_of(bytes);
+    let command = packet::command_of(bytes);
+    let size = packet::length_of(bytes);
+    gathering::take_payload(
+        s,
+        c,
+        command,
+        size,
+        0,
+        order::GATHERING_TIME,
+        &bytes[7..],
+        message,
+    )
+}
+
+// What the verdict does.
+fn carry_out(v: Verdict, s: State, bytes: &[u8], reply: &mut [u8], message: &mut [u8]) -> Outcome
+    requires { ⌜ (v ≡ Verdict.Opened → lengthOf (now bytes) ≤ 7609) × (s .given ≤ 65535) × (length (now bytes) ≡ 64) × (64 ≤ length (now reply)) × (7609 ≤ length (now message)) ⌝ }
+    ensures { λ r. ⌜ effect r (now (reply .exit)) (now (message .exit)) ≡ asked (now (reply .entry)) (carriedOut v s (now (message .entry)) (now (bytes .entry))) ⌝ }
+{
+    let c = packet::channel_of(bytes);
+    match v {
+        Verdict::Nothing => outcomes::quiet(s),
+        Verdict::Error(code) => {
+            packet::send(reply, packet::error_on(c, code));
+            outcomes::replied(s)
+        }
+        Verdict::Dropped(code) => {
+            packet::send(reply, packet::error_on(c, code));
+            outcomes::replied(outcomes::in_phase(s, Phase::Idle))
+        }
+        Verdict::NextChannel => {
+            packet::send(reply, packet::init_reply(bytes, Channel(s.given + 1)));
+            outcomes::replied(one_more(s))
+        }
+        Verdict::ThisChannel => {
+            packet::send(reply, packet::init_reply(bytes, c));
+            outcomes::replied(outcomes::in_phase(s, Phase::Idle))
+        }
+        Verdict::Cancelled => {
+            message[0] = KEEPALIVE_CANCEL;
+            let phase = Phase::Answering {
+                holder: c,
+                command: packet::CBOR,
+                size: 1,
+                done: 0,
+            };
+            outcomes::quiet(outcomes::in_phase(s, phase))
+        }
+        Verdict::Opened => open_message(s, bytes, message),
+    }
+}
+
+pub fn opening(s: State, bytes: &[u8], reply: &mut [u8], message: &mut [u8]) -> Outcome
+    requires { ⌜ (inOrder s ≡ true) × (length (now bytes) ≡ 64) × (64 ≤ length (now reply)) × (7609 ≤ length (now message)) ⌝ }
+    ensures { λ r. ⌜ effect r (now (reply .exit)) (now (message .exit)) ≡ asked (now (reply .entry)) (opening s (now (message .entry)) (now (bytes .entry))) ⌝ }
+{
+    let c = packet::channel_of(bytes);
+    let work = s.work;
+    let f = work.phase;
+    let at = table::stands(f, c);
+    let v = table::decide(
+        s.given,
+        at,
+        c,
+        packet::command_of(bytes),
+        packet::length_of(bytes),
+    );
+    carry_out(v, s, bytes, reply, message)
+}

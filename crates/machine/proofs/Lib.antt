@@ -1,0 +1,11 @@
+pub mod Outcome
+pub mod Steps
+pub mod Shapes
+pub mod Kept
+pub mod Refusals
+pub mod Strangers
+pub mod Gathering
+pub mod Fetching
+pub mod Timing
+pub mod Tickets
+pub mod Channels

@@ -1,0 +1,9 @@
+//! `model-bench`: the model behind the line protocol of the program `bench`.
+
+use std::io;
+
+use model::bench::Bench;
+
+fn main() -> io::Result<()> {
+    Bench::default().serve(io::stdin().lock(), io::stdout().lock())
+}

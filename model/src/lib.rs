@@ -1,0 +1,25 @@
+//! The touch key's protocol in ordinary Rust, written from document 01 alone, and the tests that
+//! hold the proved program to it.
+//!
+//! The model is a second reading of the same rules: [`packet`] (framing), [`cbor`] (canonical
+//! items), [`command`] (the checking call), [`key`] (the state and the four calls) and [`bench`]
+//! (the line protocol, also as the program `model-bench`). Nothing is proved of it; it is there to
+//! be compared. It is also the ordinary Rust version against which speed is measured.
+//!
+//! `cargo test --release` in this folder runs the unit tests, the vectors of `../vectors/base`, and
+//! the program `bench` against the model: table by table, and on random scripts of 250,000 events.
+//! It wants the program that `rt check bench` makes at the top of the repository; `BENCH` and
+//! `BENCH_RUNNER` name another or say how to run it (see [`trial::program`]). The random scripts
+//! have a fixed seed, which `SEED` replaces. A difference is reported with the shortest script that
+//! shows it.
+//!
+//! `cargo run --release --bin soak -- 600s` (or a number of events) compares for longer, from a seed
+//! of its own unless `SEED` gives one.
+
+pub mod bench;
+pub mod cbor;
+pub mod command;
+pub mod key;
+pub mod line;
+pub mod packet;
+pub mod trial;

@@ -1,0 +1,313 @@
+//! Random CBOR items, canonical ones and damaged ones.
+
+use super::random::Random;
+use crate::cbor::key_order;
+
+/// Major types.
+pub const UNSIGNED: u8 = 0;
+pub const NEGATIVE: u8 = 1;
+pub const BYTES: u8 = 2;
+pub const TEXT: u8 = 3;
+pub const ARRAY: u8 = 4;
+pub const MAP: u8 = 5;
+const TAG: u8 = 6;
+
+/// An item as it is written. `Raw` bytes are written as they are, canonical or not.
+#[derive(Clone, Debug)]
+pub enum Tree {
+    Number(u8, u64),
+    String(u8, Vec<u8>),
+    Array(Vec<Tree>),
+    Map(Vec<(Tree, Tree)>),
+    Raw(Vec<u8>),
+}
+
+impl Tree {
+    pub fn unsigned(value: u64) -> Tree {
+        Tree::Number(UNSIGNED, value)
+    }
+
+    pub fn text(text: &str) -> Tree {
+        Tree::String(TEXT, text.as_bytes().to_vec())
+    }
+
+    pub fn bytes(bytes: Vec<u8>) -> Tree {
+        Tree::String(BYTES, bytes)
+    }
+
+    pub fn encoded(&self) -> Vec<u8> {
+        let mut out = Vec::new();
+        self.encode(&mut out);
+        out
+    }
+
+    fn encode(&self, out: &mut Vec<u8>) {
+        match self {
+            Tree::Number(major, value) => head(*major, *value, out),
+            Tree::String(major, content) => {
+                head(*major, content.len() as u64, out);
+                out.extend_from_slice(content);
+            }
+            Tree::Array(entries) => {
+                head(ARRAY, entries.len() as u64, out);
+                entries.iter().for_each(|entry| entry.encode(out));
+            }
+            Tree::Map(entries) => {
+                head(MAP, entries.len() as u64, out);
+                for (key, value) in entries {
+                    key.encode(out);
+                    value.encode(out);
+                }
+            }
+            Tree::Raw(bytes) => out.extend_from_slice(bytes),
+        }
+    }
+}
+
+/// Writes a head in its shortest form.
+fn head(major: u8, argument: u64, out: &mut Vec<u8>) {
+    let form = match argument {
+        0..=0x17 => 0,
+        0x18..=0xFF => 1,
+        0x100..=0xFFFF => 2,
+        0x1_0000..=0xFFFF_FFFF => 4,
+        _ => 8,
+    };
+    head_of_form(major, argument, form, out);
+}
+
+/// Writes a head whose argument takes `form` bytes: 0, 1, 2, 4 or 8.
+fn head_of_form(major: u8, argument: u64, form: usize, out: &mut Vec<u8>) {
+    let low = match form {
+        0 => argument as u8,
+        1 => 24,
+        2 => 25,
+        4 => 26,
+        _ => 27,
+    };
+    out.push(major << 5 | low);
+    out.extend_from_slice(&argument.to_be_bytes()[8 - form..]);
+}
+
+/// Puts the entries of a map into canonical order and leaves out keys that are there twice.
+pub fn in_order(mut entries: Vec<(Tree, Tree)>) -> Vec<(Tree, Tree)> {
+    entries.sort_by(|one, other| key_order(&one.0.encoded(), &other.0.encoded()));
+    entries.dedup_by(|one, other| one.0.encoded() == other.0.encoded());
+    entries
+}
+
+/// A number, often one where a longer form begins.
+pub fn number(random: &mut Random) -> u64 {
+    match random.below(4) {
+        0 => random.below(24) as u64,
+        1 => random.pick(&[
+            0,
+            23,
+            24,
+            0xFF,
+            0x100,
+            0xFFFF,
+            0x1_0000,
+            0xFFFF_FFFF,
+            0x1_0000_0000,
+            u64::MAX,
+        ]),
+        2 => random.below(300) as u64,
+        _ => random.number() >> random.below(64),
+    }
+}
+
+fn string_length(random: &mut Random) -> usize {
+    match random.below(8) {
+        0 => random.pick(&[0, 23, 24, 31, 32, 33, 255, 256]),
+        _ => random.below(12),
+    }
+}
+
+/// Text is mostly letters, now and then of several bytes a letter or no UTF-8 at all.
+fn text(random: &mut Random) -> Vec<u8> {
+    let mut text = Vec::new();
+    for _ in 0..string_length(random) {
+        match random.below(40) {
+            0 => text.extend_from_slice("é".as_bytes()),
+            1 => text.extend_from_slice("€".as_bytes()),
+            2 => text.extend_from_slice("😀".as_bytes()),
+            3 if random.once_in(8) => text.push(random.number() as u8),
+            _ => text.push(b'a' + random.below(26) as u8),
+        }
+    }
+    text
+}
+
+/// A key of one of the kinds that keys have.
+pub fn key(random: &mut Random) -> Tree {
+    match random.below(4) {
+        0 => Tree::Number(UNSIGNED, number(random)),
+        1 => Tree::Number(NEGATIVE, number(random)),
+        2 => {
+            let length = string_length(random);
+            Tree::bytes(random.bytes(length))
+        }
+        _ => Tree::String(TEXT, text(random)),
+    }
+}
+
+/// A canonical item that nests at most `levels` deep.
+pub fn canonical(random: &mut Random, levels: usize) -> Tree {
+    let kinds = if levels == 0 { 5 } else { 8 };
+    match random.below(kinds) {
+        0..=3 => key(random),
+        4 => Tree::Raw(vec![random.pick(&[0xF4, 0xF5, 0xF6, 0xF7])]),
+        5 | 6 if random.once_in(2) => {
+            let count = count(random);
+            Tree::Array((0..count).map(|_| canonical(random, levels - 1)).collect())
+        }
+        _ => {
+            let entries = (0..count(random))
+                .map(|_| (key(random), canonical(random, levels - 1)))
+                .collect();
+            Tree::Map(in_order(entries))
+        }
+    }
+}
+
+/// Mostly a few, now and then enough for a head of two or three bytes.
+fn count(random: &mut Random) -> usize {
+    match random.below(40) {
+        0 => random.pick(&[23, 24, 25, 40]),
+        _ => random.below(4),
+    }
+}
+
+/// An item that nests exactly `depth` deep.
+pub fn nested(random: &mut Random, depth: usize) -> Tree {
+    if depth == 0 {
+        return canonical(random, 0);
+    }
+    if depth == 1 && random.once_in(3) {
+        return Tree::Raw(vec![random.pick(&[0x80, 0xA0])]);
+    }
+    let inner = nested(random, depth - 1);
+    if random.once_in(2) {
+        let mut entries = vec![inner];
+        if random.once_in(2) {
+            entries.insert(random.below(2), canonical(random, 0));
+        }
+        Tree::Array(entries)
+    } else {
+        let mut entries = vec![(key(random), inner)];
+        if random.once_in(2) {
+            entries.push((key(random), canonical(random, 0)));
+        }
+        Tree::Map(in_order(entries))
+    }
+}
+
+/// The bytes of an item that breaks the canonical form by itself.
+pub fn breach(random: &mut Random) -> Tree {
+    let mut out = Vec::new();
+    match random.below(7) {
+        // a form longer than needed
+        0 | 1 => {
+            let major = random.below(6) as u8;
+            let (form, argument) = random.pick(&[
+                (1, 0),
+                (1, 6),
+                (1, 23),
+                (2, 24),
+                (2, 255),
+                (4, 256),
+                (4, 0xFFFF),
+                (8, 0x1_0000),
+                (8, 0xFFFF_FFFF),
+                (8, 0),
+            ]);
+            head_of_form(major, argument, form, &mut out);
+            if major == BYTES || major == TEXT {
+                let length = argument.min(300) as usize;
+                out.extend_from_slice(&random.bytes(length));
+            }
+        }
+        // a length or count that no message holds
+        2 => {
+            let major = random.below(4) as u8 + BYTES;
+            let argument = random.pick(&[
+                7_609,
+                0xFFFF,
+                0x7FFF_FFFF,
+                0xFFFF_FFFF,
+                0x1_0000_0000,
+                i64::MAX as u64,
+                u64::MAX - 1,
+                u64::MAX,
+            ]);
+            head(major, argument, &mut out);
+        }
+        // an indefinite length, with its end
+        3 => {
+            let major = random.below(4) as u8 + BYTES;
+            out.extend_from_slice(&[major << 5 | 31, 0xFF]);
+        }
+        // a tag, well formed
+        4 => {
+            head(TAG, number(random), &mut out);
+            out.push(0x00);
+        }
+        // a float or a simple value outside 20 to 23
+        5 => {
+            let first = random.pick(&[0xE0, 0xF3, 0xF8, 0xF9, 0xFA, 0xFB, 0xFF]);
+            out.push(first);
+            let content: usize = match first {
+                0xF8 => 1,
+                0xF9 => 2,
+                0xFA => 4,
+                0xFB => 8,
+                _ => 0,
+            };
+            out.extend_from_slice(&random.bytes(content));
+        }
+        // a head that RFC 7049 leaves unassigned
+        _ => out.push((random.below(8) as u8) << 5 | random.pick(&[28, 29, 30])),
+    }
+    Tree::Raw(out)
+}
+
+/// Puts a breach of the canonical form somewhere into a tree: a bad item, a key of another kind, or
+/// keys that are out of order or there twice.
+pub fn damage(random: &mut Random, tree: &mut Tree) {
+    match tree {
+        Tree::Array(entries) if !entries.is_empty() && !random.once_in(4) => {
+            let at = random.below(entries.len());
+            damage(random, &mut entries[at]);
+        }
+        Tree::Map(entries) if !entries.is_empty() && !random.once_in(8) => {
+            let at = random.below(entries.len());
+            match random.below(8) {
+                0 => entries.swap(at, 0),
+                1 => entries.reverse(),
+                2 => entries.insert(at, entries[at].clone()),
+                3 => entries[at].0 = canonical(random, 1),
+                4 => entries[at].0 = breach(random),
+                _ => damage(random, &mut entries[at].1),
+            }
+        }
+        _ => *tree = breach(random),
+    }
+}
+
+/// Changes, drops or adds a few bytes.
+pub fn damage_bytes(random: &mut Random, bytes: &mut Vec<u8>) {
+    for _ in 0..=random.below(3) {
+        let at = random.below(bytes.len() + 1);
+        let byte = random.number() as u8;
+        match random.below(5) {
+            0 if at < bytes.len() => bytes[at] ^= 1 << random.below(8),
+            1 if at < bytes.len() => bytes[at] = byte,
+            2 if at < bytes.len() => {
+                bytes.remove(at);
+            }
+            3 => bytes.truncate(at),
+            _ => bytes.insert(at, byte),
+        }
+    }
+}

@@ -1,0 +1,24 @@
+//! Differential trials: scripts for the bench, written at random but with an aim, go through the
+//! model and through the real program, and every answer is compared.
+//!
+//! [`writer`] writes the scripts, [`program`] runs the real program, [`run`] compares and
+//! [`shrink`] finds the shortest script that still shows a difference.
+
+use crate::packet::LONGEST;
+
+pub mod commands;
+mod events;
+pub mod item;
+pub mod program;
+pub mod random;
+pub mod run;
+pub mod script;
+pub mod shrink;
+mod states;
+pub mod tally;
+pub mod writer;
+
+/// Message lengths around which packets are added.
+const LENGTHS: [usize; 16] = [
+    0, 1, 2, 7, 8, 56, 57, 58, 59, 115, 116, 117, 118, 500, 7_608, LONGEST,
+];

@@ -1,0 +1,203 @@
+//! Runs scripts through the model and another key, and compares every answer.
+
+use std::env;
+use std::fmt;
+use std::sync::atomic::{AtomicU64, Ordering};
+use std::sync::Mutex;
+use std::thread;
+use std::time::{Duration, Instant};
+
+use super::program::Outcome;
+use super::script::Script;
+use super::shrink;
+use super::tally::Tally;
+use super::writer::{events_of, write_script};
+
+/// How many bytes of an answer a report shows before and after a difference.
+const SHOWN_BEFORE: usize = 100;
+const SHOWN_AFTER: usize = 200;
+
+/// What is compared with the model.
+pub type Subject<'a> = dyn Fn(&[String]) -> Outcome + Sync + 'a;
+
+/// The seed in `SEED`, or else this one.
+pub fn seed_or(default: u64) -> u64 {
+    match env::var("SEED") {
+        Ok(seed) => seed
+            .parse()
+            .unwrap_or_else(|_| panic!("SEED is {seed:?}, which is no number")),
+        Err(_) => default,
+    }
+}
+
+/// When a run has done enough.
+#[derive(Clone, Copy, Debug)]
+pub enum Enough {
+    Events(u64),
+    Time(Duration),
+}
+
+/// How far a run has come.
+#[derive(Clone, Debug, Default)]
+pub struct Done {
+    pub scripts: u64,
+    pub events: u64,
+    pub tally: Tally,
+}
+
+/// Two keys that do not agree.
+#[derive(Clone, Debug)]
+pub struct Difference {
+    /// The seed whose first script shows it, where it was a random one.
+    pub seed: Option<u64>,
+    pub lines: Vec<String>,
+    pub model: String,
+    pub program: String,
+}
+
+impl fmt::Display for Difference {
+    fn fmt(&self, f: &mut fmt::Formatter) -> fmt::Result {
+        match self.seed {
+            Some(seed) => writeln!(f, "the program and the model differ (SEED={seed})")?,
+            None => writeln!(f, "the program and the model differ")?,
+        }
+        writeln!(f, "the shortest script that was found to show it:")?;
+        for line in &self.lines {
+            writeln!(f, "    {line}")?;
+        }
+        writeln!(f, "to its last line the model answers\n    {}", self.model)?;
+        write!(f, "and the program\n    {}", self.program)
+    }
+}
+
+/// Runs the scripts of one seed after another until it is enough, and tells `progress` after each.
+/// The scripts are spread over the processors.
+pub fn compare(
+    subject: &Subject,
+    seed: u64,
+    enough: Enough,
+    progress: &(dyn Fn(&Done) + Sync),
+) -> Result<Done, Box<Difference>> {
+    let begin = Instant::now();
+    let next = AtomicU64::new(0);
+    let state = Mutex::new((Done::default(), None));
+    let workers = thread::available_parallelism().map_or(1, usize::from);
+    let work = || loop {
+        let seed = seed.wrapping_add(next.fetch_add(1, Ordering::Relaxed));
+        let (script, tally) = write_script(seed, events_of(seed));
+        let differs = first_difference(&script, &subject(&script.lines)).is_some();
+        let mut state = state.lock().unwrap_or_else(|broken| broken.into_inner());
+        let (done, differing) = &mut *state;
+        if differing.is_some() {
+            return;
+        }
+        if differs {
+            *differing = Some((seed, script.lines));
+            return;
+        }
+        done.scripts += 1;
+        done.events += tally.0.values().sum::<u64>();
+        done.tally.add(tally);
+        progress(done);
+        let is_enough = match enough {
+            Enough::Events(events) => done.events >= events,
+            Enough::Time(time) => begin.elapsed() >= time,
+        };
+        if is_enough {
+            return;
+        }
+    };
+    thread::scope(|scope| {
+        for _ in 0..workers {
+            scope.spawn(work);
+        }
+    });
+    let (done, differing) = state
+        .into_inner()
+        .unwrap_or_else(|broken| broken.into_inner());
+    match differing {
+        None => Ok(done),
+        Some((seed, lines)) => Err(Box::new(shortest_difference(subject, Some(seed), lines))),
+    }
+}
+
+/// Compares the answers to one script of these lines.
+pub fn compare_lines(subject: &Subject, lines: Vec<String>) -> Result<(), Box<Difference>> {
+    let script = Script::answered(lines);
+    match first_difference(&script, &subject(&script.lines)) {
+        None => Ok(()),
+        Some(_) => Err(Box::new(shortest_difference(subject, None, script.lines))),
+    }
+}
+
+/// A difference between what the model answers to a script and an outcome.
+struct Found {
+    line: usize,
+    model: String,
+    program: String,
+}
+
+fn first_difference(script: &Script, outcome: &Outcome) -> Option<Found> {
+    let (model, program) = (&script.answers, &outcome.answers);
+    if model == program && outcome.bad_end.is_none() {
+        return None;
+    }
+    let at = model
+        .iter()
+        .zip(program)
+        .position(|(one, other)| one != other)
+        .unwrap_or(model.len().min(program.len()));
+    let mut said = around(program, at);
+    if let Some(bad_end) = &outcome.bad_end {
+        said = format!("{said} ({bad_end})");
+    }
+    Some(Found {
+        line: script.line_of(at),
+        model: around(model, at),
+        program: said,
+    })
+}
+
+/// The line of the answers that has the byte `at`, cut around it where it is long.
+fn around(answers: &[u8], at: usize) -> String {
+    let (before, after) = answers.split_at(at);
+    let start = before.iter().rposition(|&byte| byte == b'\n');
+    let before = &before[start.map_or(0, |end| end + 1)..];
+    let end = after.iter().position(|&byte| byte == b'\n');
+    let after = &after[..end.unwrap_or(after.len())];
+    let mut line = String::new();
+    if before.len() > SHOWN_BEFORE {
+        line.push_str(&format!("(from byte {}) ", before.len() - SHOWN_BEFORE));
+    }
+    let shown = [
+        &before[before.len().saturating_sub(SHOWN_BEFORE)..],
+        &after[..after.len().min(SHOWN_AFTER)],
+    ];
+    line.push_str(&String::from_utf8_lossy(&shown.concat()));
+    if line.is_empty() {
+        line.push_str("nothing");
+    }
+    line
+}
+
+fn shortest_difference(subject: &Subject, seed: Option<u64>, lines: Vec<String>) -> Difference {
+    let found_in = |lines: &[String]| {
+        let script = Script::answered(lines.to_vec());
+        first_difference(&script, &subject(lines))
+    };
+    let upto = found_in(&lines).map_or(lines.len(), |found| found.line + 1);
+    let lines = shrink::shortest(lines[..upto].to_vec(), |lines| found_in(lines).is_some());
+    let (model, program) = match found_in(&lines) {
+        Some(found) => (found.model, found.program),
+        None => (
+            "the same".to_string(),
+            "the same, when it is run again".to_string(),
+        ),
+    };
+    Difference {
+        seed,
+        lines,
+        model,
+        program,
+    }
+}

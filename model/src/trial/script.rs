@@ -1,0 +1,39 @@
+//! A script for the bench and the answers it has to get.
+
+use crate::bench::Bench;
+
+/// Lines and what the model answers to each.
+#[derive(Clone, Debug, Default)]
+pub struct Script {
+    pub lines: Vec<String>,
+    pub answers: Vec<u8>,
+    /// Where the answer to each line ends.
+    ends: Vec<usize>,
+}
+
+impl Script {
+    /// These lines, answered by a fresh model.
+    pub fn answered(lines: Vec<String>) -> Script {
+        let mut bench = Bench::default();
+        let mut script = Script::default();
+        for line in lines {
+            script.push(&mut bench, line);
+        }
+        script
+    }
+
+    /// The line whose answer has the byte `at`; the last line where no answer has it.
+    pub fn line_of(&self, at: usize) -> usize {
+        let line = self.ends.partition_point(|&end| end <= at);
+        line.min(self.lines.len().saturating_sub(1))
+    }
+
+    /// Adds a line and gives the model's answer to it.
+    pub fn push(&mut self, bench: &mut Bench, line: String) -> &[u8] {
+        let start = self.answers.len();
+        bench.line(line.as_bytes(), &mut self.answers);
+        self.ends.push(self.answers.len());
+        self.lines.push(line);
+        &self.answers[start..]
+    }
+}

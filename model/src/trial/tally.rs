@@ -1,0 +1,95 @@
+//! What the events of a script reach: for each, the phase it met, who sent what, and the answer.
+
+use std::collections::BTreeMap;
+
+use crate::key::{Key, Transaction};
+use crate::line::Line;
+use crate::packet::{Packet, BROADCAST, CANCEL, CBOR, INIT, PACKET, PING};
+
+/// How often each case came up.
+#[derive(Clone, Debug, Default, PartialEq, Eq)]
+pub struct Tally(pub BTreeMap<String, u64>);
+
+impl Tally {
+    /// Counts an event that met this state and got this answer.
+    pub fn count(&mut self, key: &Key, event: &Line, answer: &str) {
+        let case = match event {
+            Line::Packet(bytes) => match <&[u8; PACKET]>::try_from(&bytes[..]) {
+                Ok(packet) => packet_case(key, packet),
+                Err(_) => "packet of another size".to_string(),
+            },
+            Line::Time(_) => "time".to_string(),
+            Line::Deliver(..) => "deliver".to_string(),
+            Line::Fetch => "fetch".to_string(),
+            Line::Check(_) => "check".to_string(),
+            Line::Item(..) => "item".to_string(),
+            _ => return,
+        };
+        let phase = match event {
+            Line::Check(_) | Line::Item(..) => String::new(),
+            _ => format!("{} ", phase(key)),
+        };
+        let case = format!("{phase}{case}: {}", kind_of_answer(answer));
+        *self.0.entry(case).or_default() += 1;
+    }
+
+    pub fn add(&mut self, other: Tally) {
+        for (case, count) in other.0 {
+            *self.0.entry(case).or_default() += count;
+        }
+    }
+}
+
+fn phase(key: &Key) -> &'static str {
+    match key.transaction {
+        _ if !key.is_in_order() => "out of order",
+        Transaction::Idle => "idle",
+        Transaction::Gathering { .. } => "gathering",
+        Transaction::Waiting { .. } => "waiting",
+        Transaction::Answering { .. } => "answering",
+    }
+}
+
+/// Who sent what; `given` is a channel that is given and does not hold the key.
+fn packet_case(key: &Key, packet: &[u8; PACKET]) -> String {
+    let (channel, what) = match Packet::read(packet) {
+        Packet::Opening(opening) => {
+            let what = match opening.command {
+                PING => "PING",
+                INIT => "INIT",
+                CBOR => "CBOR",
+                CANCEL => "CANCEL",
+                _ => "another command",
+            };
+            (opening.channel, what)
+        }
+        Packet::Continuation(next) => (next.channel, "continuation"),
+    };
+    let holder = key.transaction.message().map(|message| message.holder);
+    let who = if channel == BROADCAST {
+        "broadcast"
+    } else if !(1..=key.channels).contains(&channel.0) {
+        "unknown"
+    } else if holder == Some(channel) {
+        "holder"
+    } else {
+        "given"
+    };
+    format!("{who} {what}")
+}
+
+/// The answer without what differs from case to case.
+fn kind_of_answer(answer: &str) -> String {
+    let words: Vec<&str> = answer.split_whitespace().collect();
+    match words[..] {
+        ["ok", "ticket", _] => "ticket".to_string(),
+        ["ok", "reply", packet] => match packet.get(8..10) {
+            Some("bf") => format!("error {}", packet.get(14..16).unwrap_or_default()),
+            Some("86") => "INIT reply".to_string(),
+            _ => "packet".to_string(),
+        },
+        ["good", "hash", _] => "good hash".to_string(),
+        ["item", _] => "item".to_string(),
+        _ => words.join(" "),
+    }
+}

@@ -1,0 +1,19 @@
+//! What the table tests share.
+
+use model::line;
+use model::trial::program::Program;
+use model::trial::run::compare_lines;
+
+/// Runs a script through the real program and the model.
+pub fn agree(lines: Vec<String>) {
+    let program = Program::find().unwrap_or_else(|missing| panic!("{missing}"));
+    if let Err(difference) = compare_lines(&|lines| program.run(lines), lines) {
+        panic!("{difference}");
+    }
+}
+
+pub fn hex(bytes: &[u8]) -> String {
+    let mut out = Vec::new();
+    line::encode(bytes, &mut out);
+    String::from_utf8_lossy(&out).into_owned()
+}

@@ -1,0 +1,129 @@
+//! The random scripts reach every row of document 01's tables, in every phase in which it can come
+//! up, and every refusal and status.
+
+use model::trial::tally::Tally;
+use model::trial::writer::{events_of, write_script};
+
+const SCRIPTS: u64 = 80;
+
+/// What comes up in every phase: broadcast, unknown channels, calls that are turned away.
+const IN_EVERY_PHASE: [&str; 23] = [
+    "broadcast PING: error 0b",
+    "broadcast CBOR: error 0b",
+    "broadcast CANCEL: error 0b",
+    "broadcast another command: error 0b",
+    "broadcast INIT: error 03",
+    "broadcast INIT: error 7f",
+    "broadcast INIT: INIT reply",
+    "broadcast continuation: ok",
+    "unknown PING: error 0b",
+    "unknown INIT: error 0b",
+    "unknown CBOR: error 0b",
+    "unknown CANCEL: error 0b",
+    "unknown another command: error 0b",
+    "unknown continuation: ok",
+    "given CANCEL: ok",
+    "given continuation: ok",
+    "packet of another size: refused 1",
+    "given another command: refused 2",
+    "given another command: refused 3",
+    "time: refused 2",
+    "fetch: refused 2",
+    "fetch: refused 3",
+    "deliver: refused 3",
+];
+
+/// What another channel comes to while the key is held.
+const WHILE_HELD: [&str; 4] = [
+    "given PING: error 06",
+    "given CBOR: error 06",
+    "given INIT: error 06",
+    "given another command: error 06",
+];
+
+/// The rest of the tables, and the checking and reading of commands and items.
+const ONCE: [&str; 58] = [
+    "idle given INIT: error 03",
+    "idle given INIT: INIT reply",
+    "idle given another command: error 01",
+    "idle given PING: error 03",
+    "idle given CBOR: error 03",
+    "idle given PING: ok",
+    "idle given CBOR: ok",
+    "idle given CBOR: ticket",
+    "idle time: ok",
+    "idle fetch: refused 4",
+    "idle deliver: refused 4",
+    "gathering holder CANCEL: ok",
+    "gathering holder INIT: error 03",
+    "gathering holder INIT: INIT reply",
+    "gathering holder PING: error 04",
+    "gathering holder CBOR: error 04",
+    "gathering holder another command: error 04",
+    "gathering holder continuation: ok",
+    "gathering holder continuation: ticket",
+    "gathering holder continuation: error 04",
+    "gathering time: ok",
+    "gathering time: error 05",
+    "gathering fetch: refused 4",
+    "gathering deliver: refused 4",
+    "waiting holder CANCEL: ok",
+    "waiting holder INIT: error 03",
+    "waiting holder INIT: INIT reply",
+    "waiting holder PING: error 06",
+    "waiting holder CBOR: error 06",
+    "waiting holder another command: error 06",
+    "waiting holder continuation: ok",
+    "waiting time: ok",
+    "waiting fetch: refused 4",
+    "waiting deliver: refused 5",
+    "waiting deliver: refused 6",
+    "waiting deliver: ok",
+    "answering holder CANCEL: ok",
+    "answering holder INIT: error 03",
+    "answering holder INIT: INIT reply",
+    "answering holder PING: error 06",
+    "answering holder CBOR: error 06",
+    "answering holder another command: error 06",
+    "answering holder continuation: ok",
+    "answering time: ok",
+    "answering fetch: packet",
+    "answering deliver: refused 4",
+    "out of order packet of another size: refused 7",
+    "out of order time: refused 7",
+    "out of order fetch: refused 7",
+    "out of order deliver: refused 7",
+    "check: status 01",
+    "check: status 03",
+    "check: status 11",
+    "check: status 12",
+    "check: status 14",
+    "check: status 26",
+    "check: good",
+    "check: good hash",
+];
+
+#[test]
+fn every_row_comes_up() {
+    let mut tally = Tally::default();
+    for seed in 0..SCRIPTS {
+        tally.add(write_script(seed, events_of(seed)).1);
+    }
+    let mut expected: Vec<String> = ONCE.map(String::from).to_vec();
+    for phase in ["idle", "gathering", "waiting", "answering"] {
+        expected.extend(IN_EVERY_PHASE.map(|case| format!("{phase} {case}")));
+    }
+    for phase in ["gathering", "waiting", "answering"] {
+        expected.extend(WHILE_HELD.map(|case| format!("{phase} {case}")));
+    }
+    expected.extend(["item: item", "item: status 12"].map(String::from));
+    expected.retain(|case| !tally.0.contains_key(case));
+    assert!(expected.is_empty(), "no script reaches {expected:#?}");
+}
+
+#[test]
+fn a_seed_repeats_its_script() {
+    let (one, _) = write_script(7, 300);
+    let (other, _) = write_script(7, 300);
+    assert_eq!(one.lines, other.lines);
+}

@@ -1,0 +1,194 @@
+//! The real program against the model, row by row: every command at every bound in every phase,
+//! every bound of a state, every refusal beside every other, every pair of first bytes of an item.
+
+mod common;
+
+use common::{agree, hex};
+use model::packet::{Channel, CBOR, LONGEST, PACKET, PING};
+
+/// States in order, of each phase, in which channel 2 holds the key if anybody does.
+const PHASES: [&str; 8] = [
+    "state 3 9 idle",
+    "state 65535 9 idle",
+    "state 3 9 gathering 2 1 7609 1 3000",
+    "state 3 9 gathering 2 16 7609 128 1",
+    "state 3 4294967295 gathering 2 16 58 1 1",
+    "state 3 9 waiting 2 16 7609",
+    "state 3 9 answering 2 1 58 1",
+    "state 3 9 answering 2 16 7609 0",
+];
+
+/// Nobody's channel, a holder's, another's, one not given, broadcast.
+const CHANNELS: [u32; 5] = [0, 2, 3, 4, 0xFFFF_FFFF];
+
+/// A packet whose payload tells where it comes from.
+fn packet(channel: Channel, byte_4: u8, length: u16) -> String {
+    let mut packet = [0x40 + channel.0 as u8; PACKET];
+    packet[..4].copy_from_slice(&channel.0.to_be_bytes());
+    packet[4] = byte_4;
+    if byte_4 >= 0x80 {
+        packet[5..7].copy_from_slice(&length.to_be_bytes());
+    }
+    format!("packet {}", hex(&packet))
+}
+
+/// Shows the state and the first bytes of the message buffer.
+fn peek(lines: &mut Vec<String>) {
+    for line in ["message 120", "show", "message 7609"] {
+        lines.push(line.to_string());
+    }
+}
+
+#[test]
+fn every_opening_in_every_phase() {
+    for phase in PHASES {
+        let mut lines = Vec::new();
+        for channel in CHANNELS {
+            for command in 0..=0x7F {
+                for length in [0, 1, 7, 8, 9, 57, 58, 7_609, 7_610, 65_535] {
+                    lines.push(phase.to_string());
+                    lines.push(packet(Channel(channel), 0x80 | command, length));
+                    if [1, 8, 7_609].contains(&length) {
+                        peek(&mut lines);
+                    }
+                }
+            }
+        }
+        agree(lines);
+    }
+}
+
+#[test]
+fn every_continuation_in_every_phase() {
+    let mut lines = Vec::new();
+    for phase in PHASES {
+        for channel in CHANNELS {
+            for number in 0..=0x7F {
+                lines.push(phase.to_string());
+                lines.push(packet(Channel(channel), number, 0));
+                peek(&mut lines);
+            }
+        }
+    }
+    agree(lines);
+}
+
+#[test]
+fn every_bound_of_a_state() {
+    let mut lines = Vec::new();
+    let mut state = |state: String| {
+        lines.push(state);
+        lines.push("time 0".to_string());
+    };
+    for channels in [0, 1, 2, 65_534, 65_535, 65_536, u32::MAX] {
+        state(format!("state {channels} 0 idle"));
+        for holder in [0, 1, 2, 3, 65_535, 65_536, u32::MAX] {
+            state(format!("state {channels} 0 waiting {holder} 16 1"));
+            state(format!("state {channels} 0 answering {holder} 16 1 0"));
+            state(format!("state {channels} 0 gathering {holder} 16 58 1 1"));
+        }
+    }
+    for command in 0..=0x7F {
+        for length in [0, 1, 57, 58, 116, 117, 7_609, 7_610, 65_535] {
+            state(format!("state 1 0 waiting 1 {command} {length}"));
+            for done in [0, 1, 2, 3, 128, 129] {
+                state(format!("state 1 0 answering 1 {command} {length} {done}"));
+                state(format!("state 1 0 gathering 1 {command} {length} {done} 1"));
+            }
+        }
+    }
+    for left in [0, 1, 2_999, 3_000, 3_001, 65_535] {
+        for done in 0..=130 {
+            state(format!("state 1 0 gathering 1 1 7609 {done} {left}"));
+        }
+    }
+    agree(lines);
+}
+
+#[test]
+fn every_refusal_beside_every_other() {
+    let mut calls: Vec<String> = ["time 0", "time 4294967295", "fetch", "packet"]
+        .map(String::from)
+        .to_vec();
+    for size in [63, 64, 65] {
+        calls.push(format!("packet {}", "00".repeat(size)));
+    }
+    for ticket in [8, 9, 10] {
+        calls.push(format!("deliver {ticket}"));
+        for length in [1, LONGEST, LONGEST + 1] {
+            calls.push(format!("deliver {ticket} {}", "5a".repeat(length)));
+        }
+    }
+    let out_of_order = [
+        "state 65536 9 idle",
+        "state 1 9 waiting 2 16 7609",
+        "state 3 9 waiting 2 1 7609",
+        "state 3 9 answering 2 1 58 2",
+    ];
+    let mut lines = Vec::new();
+    for state in PHASES.iter().chain(&out_of_order) {
+        for reply in [0, 63, 64, 65] {
+            for message in [0, 7_608, 7_609, 7_610] {
+                for call in &calls {
+                    lines.push(format!("reply {reply}"));
+                    lines.push(format!("message {message}"));
+                    lines.push(state.to_string());
+                    lines.push(call.clone());
+                    lines.push("reply 128".to_string());
+                    peek(&mut lines);
+                }
+            }
+        }
+        lines.push("message 8192".to_string());
+        lines.push("show".to_string());
+    }
+    agree(lines);
+}
+
+#[test]
+fn every_step_of_time() {
+    let mut lines = Vec::new();
+    for command in [PING, CBOR] {
+        for left in [1, 2, 1_500, 2_999, 3_000] {
+            let near = [left - 1, left, left + 1];
+            for elapsed in [0, 1, 2_999, 3_000, 3_001, 1 << 31, u32::MAX]
+                .into_iter()
+                .chain(near)
+            {
+                lines.push(format!("state 1 0 gathering 1 {command} 58 1 {left}"));
+                lines.push(format!("time {elapsed}"));
+                peek(&mut lines);
+            }
+        }
+    }
+    agree(lines);
+}
+
+#[test]
+fn every_pair_of_first_bytes_of_an_item() {
+    for levels in [0, 1, 4] {
+        let mut lines = Vec::new();
+        for first in 0..=0xFF_u8 {
+            for second in 0..=0xFF_u8 {
+                lines.push(format!("item {levels} {first:02x}{second:02x}"));
+            }
+            lines.push(format!("item {levels} {first:02x}"));
+        }
+        agree(lines);
+    }
+}
+
+#[test]
+fn every_length_of_a_message() {
+    let mut lines = vec!["state 1 0 idle".to_string()];
+    for length in 0..=400_usize {
+        lines.push(packet(Channel(1), 0x80 | PING, length as u16));
+        for number in 0..length.saturating_sub(57).div_ceil(59) {
+            lines.push(packet(Channel(1), number as u8, 0));
+        }
+        for _ in 0..=1 + length.saturating_sub(57).div_ceil(59) {
+            lines.push("fetch".to_string());
+        }
+    }
+    agree(lines);
+}

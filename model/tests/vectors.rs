@@ -1,0 +1,48 @@
+//! The scripts of `vectors/base`, with answers that come from an independent reading of document 01.
+
+use std::fs;
+use std::path::{Path, PathBuf};
+
+use model::bench::Bench;
+use model::trial::program::Program;
+
+/// Every script with its answers.
+fn vectors() -> Vec<(PathBuf, Vec<u8>, Vec<u8>)> {
+    let folder = Path::new(env!("CARGO_MANIFEST_DIR")).join("../vectors/base");
+    let read =
+        |path: &Path| fs::read(path).unwrap_or_else(|error| panic!("{}: {error}", path.display()));
+    let mut scripts: Vec<PathBuf> = fs::read_dir(&folder)
+        .unwrap_or_else(|error| panic!("{}: {error}", folder.display()))
+        .map(|entry| entry.expect("an entry of the folder").path())
+        .filter(|path| path.extension().is_some_and(|extension| extension == "in"))
+        .collect();
+    scripts.sort();
+    assert!(!scripts.is_empty(), "no scripts in {}", folder.display());
+    scripts
+        .into_iter()
+        .map(|path| (path.clone(), read(&path), read(&path.with_extension("out"))))
+        .collect()
+}
+
+#[test]
+fn the_model_answers_the_vectors() {
+    for (path, script, expected) in vectors() {
+        let mut answers = Vec::new();
+        Bench::default()
+            .serve(&script[..], &mut answers)
+            .expect("memory can be read and written");
+        assert!(answers == expected, "{}", path.display());
+    }
+}
+
+#[test]
+fn the_program_answers_the_vectors() {
+    let program = Program::find().unwrap_or_else(|missing| panic!("{missing}"));
+    for (path, script, expected) in vectors() {
+        let script = String::from_utf8(script).expect("scripts are text");
+        let lines: Vec<String> = script.lines().map(String::from).collect();
+        let outcome = program.run(&lines);
+        assert_eq!(outcome.bad_end, None, "{}", path.display());
+        assert!(outcome.answers == expected, "{}", path.display());
+    }
+}
