@@ -1,4 +1,4 @@
-//! The scripts of `vectors/base`, with answers that come from an independent reading of document 01.
+//! Scripts with their answers: those of `vectors/base`, which come from an independent reading of document 01, and those of `examples`.
 
 use std::fs;
 use std::path::{Path, PathBuf};
@@ -6,19 +6,31 @@ use std::path::{Path, PathBuf};
 use model::bench::Bench;
 use model::trial::program::Program;
 
-/// Every script with its answers.
-fn vectors() -> Vec<(PathBuf, Vec<u8>, Vec<u8>)> {
-    let folder = Path::new(env!("CARGO_MANIFEST_DIR")).join("../vectors/base");
-    let read =
-        |path: &Path| fs::read(path).unwrap_or_else(|error| panic!("{}: {error}", path.display()));
+/// The scripts of a folder, by the ending of their names.
+fn scripts(folder: &str, ending: &str) -> Vec<PathBuf> {
+    let folder = Path::new(env!("CARGO_MANIFEST_DIR"))
+        .join("..")
+        .join(folder);
     let mut scripts: Vec<PathBuf> = fs::read_dir(&folder)
         .unwrap_or_else(|error| panic!("{}: {error}", folder.display()))
         .map(|entry| entry.expect("an entry of the folder").path())
-        .filter(|path| path.extension().is_some_and(|extension| extension == "in"))
+        .filter(|path| {
+            path.extension()
+                .is_some_and(|extension| extension == ending)
+        })
         .collect();
     scripts.sort();
     assert!(!scripts.is_empty(), "no scripts in {}", folder.display());
     scripts
+}
+
+/// Every script with its answers.
+fn vectors() -> Vec<(PathBuf, Vec<u8>, Vec<u8>)> {
+    let read =
+        |path: &Path| fs::read(path).unwrap_or_else(|error| panic!("{}: {error}", path.display()));
+    let mut paths = scripts("vectors/base", "in");
+    paths.extend(scripts("examples", "txt"));
+    paths
         .into_iter()
         .map(|path| (path.clone(), read(&path), read(&path.with_extension("out"))))
         .collect()

@@ -1,0 +1,75 @@
+// The checking call and the item reader on bytes alone.
+use crate::bench::Bench;
+use crate::bench::Taken;
+use crate::output;
+use crate::words;
+use crate::words::Hex;
+use crate::words::Number8;
+use cbor::Item;
+use command::Checked;
+ghost use Prim.Native.Nat.{_≤_};
+ghost use lib.ListN.{length};
+ghost use Rattle.bench.specs.Bench.{lends, fits, answerSize};
+
+// A line of 20,000 bytes has no more bytes in hex.
+const MOST: usize = 10000;
+
+// The most levels that may be left.
+const LEVELS: u8 = 4;
+
+const INVALID_CBOR: u8 = 0x12;
+
+// `check HEX`
+pub fn check(b: Bench, text: &[u8], out: &mut [u8]) -> Taken
+    requires { ⌜ lends b ⌝ }
+    requires { ⌜ answerSize ≤ length (now out) ⌝ }
+    ensures { λ r. ⌜ fits r ⌝ }
+{
+    let mut bytes = [0u8; MOST];
+    let Hex::Bytes(n) = words::bytes_of(text, &mut bytes) else {
+        return Taken::No;
+    };
+    Taken::Yes(b, checked(command::check(&bytes[0..n]), out))
+}
+
+// `good`, `good hash AT` or `status HH`
+fn checked(found: Checked, out: &mut [u8]) -> usize
+    requires { ⌜ answerSize ≤ length (now out) ⌝ }
+    ensures { λ r. ⌜ r ≤ answerSize ⌝ }
+{
+    match found {
+        Checked::Info => output::text(0, b"good\n", out),
+        Checked::Good(at) => output::numbered(b"good hash", at as u64, out),
+        Checked::Refused(code) => output::in_hex(0, b"status ", &[code], out),
+    }
+}
+
+// `item L HEX`
+pub fn item(b: Bench, text: &[u8], out: &mut [u8]) -> Taken
+    requires { ⌜ lends b ⌝ }
+    requires { ⌜ answerSize ≤ length (now out) ⌝ }
+    ensures { λ r. ⌜ fits r ⌝ }
+{
+    let mut bytes = [0u8; MOST];
+    let Number8::Is(levels) = words::number8_of(words::word(text)) else {
+        return Taken::No;
+    };
+    if LEVELS < levels {
+        return Taken::No;
+    }
+    let Hex::Bytes(n) = words::bytes_of(words::rest(text), &mut bytes) else {
+        return Taken::No;
+    };
+    Taken::Yes(b, read(cbor::read_item(&bytes[0..n], levels), out))
+}
+
+// `item N` or `status 12`
+fn read(found: Item, out: &mut [u8]) -> usize
+    requires { ⌜ answerSize ≤ length (now out) ⌝ }
+    ensures { λ r. ⌜ r ≤ answerSize ⌝ }
+{
+    match found {
+        Item::Len(n) => output::numbered(b"item", n as u64, out),
+        Item::Fault(_) => output::in_hex(0, b"status ", &[INVALID_CBOR], out),
+    }
+}
