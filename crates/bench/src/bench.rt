@@ -28,7 +28,7 @@ pub enum Taken {
 }
 
 // A fresh key.
-pub fn fresh() -> Bench
+pub(crate) fn fresh() -> Bench
     ensures { λ r. ⌜ lends r ⌝ }
 {
     let key = State {
@@ -46,7 +46,7 @@ pub fn fresh() -> Bench
 }
 
 // The bench with another state of the key.
-pub fn with(b: Bench, key: State) -> Bench
+pub(crate) fn with(b: Bench, key: State) -> Bench
     requires { ⌜ lends b ⌝ }
     ensures { λ r. ⌜ lends r ⌝ }
 {

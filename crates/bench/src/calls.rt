@@ -19,7 +19,13 @@ ghost use Rattle.bench.specs.Bench.{lends, laid, fits, replySize, answer
 const MOST: usize = 8000;
 
 // `packet HEX`
-pub fn packet(b: Bench, text: &[u8], reply: &mut [u8], message: &mut [u8], out: &mut [u8]) -> Taken
+pub(crate) fn packet(
+    b: Bench,
+    text: &[u8],
+    reply: &mut [u8],
+    message: &mut [u8],
+    out: &mut [u8],
+) -> Taken
     requires { ⌜ laid b (now reply) (now message) ⌝ }
     requires { ⌜ answerSize ≤ length (now out) ⌝ }
     ensures { λ r. ⌜ fits r ⌝ }
@@ -55,7 +61,7 @@ fn call_packet(
 }
 
 // `time N`
-pub fn time(b: Bench, text: &[u8], reply: &mut [u8], out: &mut [u8]) -> Taken
+pub(crate) fn time(b: Bench, text: &[u8], reply: &mut [u8], out: &mut [u8]) -> Taken
     requires { ⌜ lends b ⌝ }
     requires { ⌜ length (now reply) ≡ replySize ⌝ }
     requires { ⌜ answerSize ≤ length (now out) ⌝ }
@@ -71,7 +77,13 @@ pub fn time(b: Bench, text: &[u8], reply: &mut [u8], out: &mut [u8]) -> Taken
 }
 
 // `deliver T HEX`
-pub fn deliver(b: Bench, text: &[u8], reply: &[u8], message: &mut [u8], out: &mut [u8]) -> Taken
+pub(crate) fn deliver(
+    b: Bench,
+    text: &[u8],
+    reply: &[u8],
+    message: &mut [u8],
+    out: &mut [u8],
+) -> Taken
     requires { ⌜ laid b (now reply) (now message) ⌝ }
     requires { ⌜ answerSize ≤ length (now out) ⌝ }
     ensures { λ r. ⌜ fits r ⌝ }
@@ -105,7 +117,7 @@ fn call_deliver(
 }
 
 // `fetch`
-pub fn fetch(b: Bench, reply: &mut [u8], message: &[u8], out: &mut [u8]) -> Taken
+pub(crate) fn fetch(b: Bench, reply: &mut [u8], message: &[u8], out: &mut [u8]) -> Taken
     requires { ⌜ laid b (now reply) (now message) ⌝ }
     requires { ⌜ answerSize ≤ length (now out) ⌝ }
     ensures { λ r. ⌜ fits r ⌝ }

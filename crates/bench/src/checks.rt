@@ -20,7 +20,7 @@ const LEVELS: u8 = 4;
 const INVALID_CBOR: u8 = 0x12;
 
 // `check HEX`
-pub fn check(b: Bench, text: &[u8], out: &mut [u8]) -> Taken
+pub(crate) fn check(b: Bench, text: &[u8], out: &mut [u8]) -> Taken
     requires { ⌜ lends b ⌝ }
     requires { ⌜ answerSize ≤ length (now out) ⌝ }
     ensures { λ r. ⌜ fits r ⌝ }
@@ -45,7 +45,7 @@ fn checked(found: Checked, out: &mut [u8]) -> usize
 }
 
 // `item L HEX`
-pub fn item(b: Bench, text: &[u8], out: &mut [u8]) -> Taken
+pub(crate) fn item(b: Bench, text: &[u8], out: &mut [u8]) -> Taken
     requires { ⌜ lends b ⌝ }
     requires { ⌜ answerSize ≤ length (now out) ⌝ }
     ensures { λ r. ⌜ fits r ⌝ }

@@ -73,7 +73,13 @@ fn named(word: &[u8]) -> Kind {
     Kind::Unknown
 }
 
-pub fn run(b: Bench, line: &[u8], reply: &mut [u8], message: &mut [u8], out: &mut [u8]) -> Taken
+pub(crate) fn run(
+    b: Bench,
+    line: &[u8],
+    reply: &mut [u8],
+    message: &mut [u8],
+    out: &mut [u8],
+) -> Taken
     requires { ⌜ laid b (now reply) (now message) ⌝ }
     requires { ⌜ answerSize ≤ length (now out) ⌝ }
     ensures { λ r. ⌜ fits r ⌝ }

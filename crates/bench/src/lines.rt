@@ -31,7 +31,7 @@ pub struct Desk {
     pub is_open: bool,
 }
 
-pub fn begin() -> Desk
+pub(crate) fn begin() -> Desk
     ensures { λ r. ⌜ keeps r ⌝ }
 {
     Desk {
@@ -43,7 +43,7 @@ pub fn begin() -> Desk
 }
 
 // Takes in what one read has brought.
-pub fn take_in(
+pub(crate) fn take_in(
     start: Desk,
     input: &[u8],
     line: &mut [u8],
@@ -107,7 +107,7 @@ fn longer(desk: Desk, bytes: &[u8], line: &mut [u8]) -> Desk
 }
 
 // At the end of input: bytes after the last line end are a line too.
-pub fn end(desk: Desk, line: &[u8], reply: &mut [u8], message: &mut [u8]) -> Desk
+pub(crate) fn end(desk: Desk, line: &[u8], reply: &mut [u8], message: &mut [u8]) -> Desk
     requires { ⌜ (keeps desk) × (length (now line) ≡ lineSize) ⌝ }
     requires { ⌜ (length (now reply) ≡ replySize) × (length (now message) ≡ messageSize) ⌝ }
     ensures { λ r. ⌜ keeps r ⌝ }

@@ -4,7 +4,7 @@ ghost use mathlib.Core.Path.{_≡_};
 ghost use Prim.Native.Nat.{_+_, _*_, _<_, _≤_};
 ghost use lib.ListN.{length};
 
-pub fn text(at: usize, bytes: &[u8], out: &mut [u8]) -> usize
+pub(crate) fn text(at: usize, bytes: &[u8], out: &mut [u8]) -> usize
     requires { ⌜ at + length (now bytes) ≤ length (now out) ⌝ }
     ensures { λ r. ⌜ r ≡ at + length (now (bytes .entry)) ⌝ }
 {
@@ -36,7 +36,7 @@ fn hex(at: usize, bytes: &[u8], out: &mut [u8]) -> usize
 }
 
 // A space and a number of at most 20 digits.
-pub fn number(at: usize, n: u64, out: &mut [u8]) -> usize
+pub(crate) fn number(at: usize, n: u64, out: &mut [u8]) -> usize
     requires { ⌜ at + 21 ≤ length (now out) ⌝ }
     ensures { λ r. ⌜ r ≤ at + 21 ⌝ }
 {
@@ -46,7 +46,7 @@ pub fn number(at: usize, n: u64, out: &mut [u8]) -> usize
 }
 
 // A line of words and a number.
-pub fn numbered(words: &[u8], n: u64, out: &mut [u8]) -> usize
+pub(crate) fn numbered(words: &[u8], n: u64, out: &mut [u8]) -> usize
     requires { ⌜ length (now words) + 22 ≤ length (now out) ⌝ }
     ensures { λ r. ⌜ r ≤ length (now (words .entry)) + 22 ⌝ }
 {
@@ -55,7 +55,7 @@ pub fn numbered(words: &[u8], n: u64, out: &mut [u8]) -> usize
 }
 
 // A line of words and bytes.
-pub fn in_hex(at: usize, words: &[u8], bytes: &[u8], out: &mut [u8]) -> usize
+pub(crate) fn in_hex(at: usize, words: &[u8], bytes: &[u8], out: &mut [u8]) -> usize
     requires { ⌜ at + length (now words) + 2 * length (now bytes) + 1 ≤ length (now out) ⌝ }
     ensures { λ r. ⌜ r ≡ at + length (now (words .entry)) + 2 * length (now (bytes .entry)) + 1 ⌝ }
 {

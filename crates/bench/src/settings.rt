@@ -15,7 +15,7 @@ use wire::Channel;
 ghost use Rattle.bench.specs.Bench.{lends, fits};
 
 // `reply N`
-pub fn reply(b: Bench, text: &[u8]) -> Taken
+pub(crate) fn reply(b: Bench, text: &[u8]) -> Taken
     requires { ⌜ lends b ⌝ }
     ensures { λ r. ⌜ fits r ⌝ }
 {
@@ -32,7 +32,7 @@ pub fn reply(b: Bench, text: &[u8]) -> Taken
 }
 
 // `message N`
-pub fn message(b: Bench, text: &[u8]) -> Taken
+pub(crate) fn message(b: Bench, text: &[u8]) -> Taken
     requires { ⌜ lends b ⌝ }
     ensures { λ r. ⌜ fits r ⌝ }
 {
@@ -49,7 +49,7 @@ pub fn message(b: Bench, text: &[u8]) -> Taken
 }
 
 // `state CHANNELS TICKET ..`: any state that the key can be handed, in order or not.
-pub fn state(b: Bench, text: &[u8]) -> Taken
+pub(crate) fn state(b: Bench, text: &[u8]) -> Taken
     requires { ⌜ lends b ⌝ }
     ensures { λ r. ⌜ fits r ⌝ }
 {

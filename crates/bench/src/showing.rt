@@ -8,7 +8,7 @@ ghost use lib.ListN.{length};
 ghost use Rattle.bench.specs.Bench.{laid, answerSize};
 
 // Three lines: the state, the lent reply buffer, the lent message buffer.
-pub fn show(b: Bench, reply: &[u8], message: &[u8], out: &mut [u8]) -> usize
+pub(crate) fn show(b: Bench, reply: &[u8], message: &[u8], out: &mut [u8]) -> usize
     requires { ⌜ laid b (now reply) (now message) ⌝ }
     requires { ⌜ answerSize ≤ length (now out) ⌝ }
     ensures { λ r. ⌜ r ≤ answerSize ⌝ }
