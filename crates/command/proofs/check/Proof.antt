@@ -16,9 +16,6 @@ unfolding checkOf
 returns-2 c = let s = c .before .before .before .args .msg .now in
     rw (ne-eqb (length s) 0 (c .before .if1 .left), lt-ltb 7609 (length s) (c .if2 .taken))
 
-shared-slice-read-command : tie.Need-shared-slice-read-command
-shared-slice-read-command c = search needs
-
 returns-3 : tie.Need-returns-3
 unfolding checkOf commandOf
 returns-3 c = let s = c .before .before .before .before .before .before .args .msg .now in
@@ -29,16 +26,10 @@ unfolding checkOf commandOf
 returns-4 c = let s = c .before .before .before .before .before .before .args .msg .now in
     rw (ne-eqb (length s) 0 (c .before .before .before .before .if1 .left), le-ltb 7609 (length s) (c .before .before .before .if2 .left), eq-eqb (getD s 0 0) 4 (c .before .if3 .taken), ne-eqb (length s) 1 (c .if4 .left))
 
-parameters-requires : tie.Need-parameters-requires
-parameters-requires c κs = search needs
-
 returns-5 : tie.Need-returns-5
 unfolding checkOf commandOf
 returns-5 c = let s = c .before .before .before .before .before .before .before .args .msg .now in
     rw (ne-eqb (length s) 0 (c .before .before .before .before .before .if1 .left), le-ltb 7609 (length s) (c .before .before .before .before .if2 .left), ne-eqb (getD s 0 0) 4 (c .before .before .if3 .left), eq-eqb (getD s 0 0) 1 (c .before .if5 .taken)) (c .parameters .ensures)
-
-parameters-requires-2 : tie.Need-parameters-requires-2
-parameters-requires-2 c κs = search needs
 
 returns-6 : tie.Need-returns-6
 unfolding checkOf commandOf
@@ -56,11 +47,11 @@ check-spec =
     (tie.spec
     returns
     returns-2
-    shared-slice-read-command
+    (λ c. search needs)
     returns-3
     returns-4
-    parameters-requires
+    (λ c κs. search needs)
     returns-5
-    parameters-requires-2
+    (λ c κs. search needs)
     returns-6
     returns-7)

@@ -5,24 +5,6 @@ use Rattle.command.specs.Check.{hashOf}
 use Rattle.command.proofs.hash.Statement.{statement}
 use Rattle.command.proofs.hash.Tie as tie
 
-enum-told : tie.Need-enum-told
-enum-told c = search needs
-
-slice-aggregate-result : tie.Need-slice-aggregate-result
-slice-aggregate-result c = search needs
-
-enum-known-c : tie.Need-enum-known-c
-enum-known-c c = search needs
-
-thirty-two-requires : tie.Need-thirty-two-requires
-thirty-two-requires c κs = search needs
-
-enum-told-2 : tie.Need-enum-told-2
-enum-told-2 c = search needs
-
-slice-aggregate-result-2 : tie.Need-slice-aggregate-result-2
-slice-aggregate-result-2 c = search needs
-
 returns : tie.Need-returns
 unfolding hashOf
 returns c = rw (c .before .enum-told .given .1)
@@ -38,12 +20,12 @@ pub hash-spec : {M : Type 1} → statement M
 hash-spec =
     tie.close
     (tie.spec
-    enum-told
-    slice-aggregate-result
-    enum-known-c
-    thirty-two-requires
-    enum-told-2
-    slice-aggregate-result-2
+    (λ c. search needs)
+    (λ c. search needs)
+    (λ c. search needs)
+    (λ c κs. search needs)
+    (λ c. search needs)
+    (λ c. search needs)
     returns
     returns-2
     returns-3)

@@ -9,38 +9,17 @@ use Rattle.command.specs.Check.{hashOf}
 use Rattle.command.proofs.thirty_two.Statement.{statement}
 use Rattle.command.proofs.thirty_two.Tie as tie
 
-slice-aggregate-result : tie.Need-slice-aggregate-result
-slice-aggregate-result c = search needs
-
 returns : tie.Need-returns
 unfolding hashOf
 returns c = let a = c .before .before .args in
     let s = a .msg .now in
     rw (lt-leb (a .at + 32) (length s) (omega arith))
 
-sub-if2 : tie.Need-sub-if2
-sub-if2 c = search needs
-
-slice-aggregate-result-2 : tie.Need-slice-aggregate-result-2
-slice-aggregate-result-2 c = search needs
-
 returns-2 : tie.Need-returns-2
 unfolding hashOf
 returns-2 c = let a = c .before .before .before .args in
     let s = a .msg .now in
     rw (lt-leb (a .at + 32) (length s) (omega arith))
-
-add-result : tie.Need-add-result
-add-result c = search needs
-
-sub-result : tie.Need-sub-result
-sub-result c = search needs
-
-part-result-start : tie.Need-part-result-start
-part-result-start c = search needs
-
-part-result-end : tie.Need-part-result-end
-part-result-end c = search needs
 
 returns-3 : tie.Need-returns-3
 unfolding hashOf
@@ -53,13 +32,13 @@ pub thirty-two-spec : {M : Type 1} → statement M
 thirty-two-spec =
     tie.close
     (tie.spec
-    slice-aggregate-result
+    (λ c. search needs)
     returns
-    sub-if2
-    slice-aggregate-result-2
+    (λ c. search needs)
+    (λ c. search needs)
     returns-2
-    add-result
-    sub-result
-    part-result-start
-    part-result-end
+    (λ c. search needs)
+    (λ c. search needs)
+    (λ c. search needs)
+    (λ c. search needs)
     returns-3)

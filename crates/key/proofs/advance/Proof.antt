@@ -12,9 +12,6 @@ use Rattle.key.proofs.advance.Tie as tie
 add-next : tie.Need-add-next
 add-next c = record { fits = omega (arith, at-most-129 (c .args .size) (omega arith)) }
 
-count-requires : tie.Need-count-requires
-count-requires c κs = search needs
-
 returns : tie.Need-returns
 unfolding advanced _⇒_else_
 returns c = simp (lt-ltb _ _ (c .if1 .taken), sym (c .before .count .ensures))
@@ -24,4 +21,4 @@ unfolding advanced _⇒_else_
 returns-2 c = simp (le-ltb _ _ (c .if1 .left), sym (c .before .count .ensures))
 
 pub advance-spec : {M : Type 1} → statement M
-advance-spec = tie.close (tie.spec add-next count-requires returns returns-2)
+advance-spec = tie.close (tie.spec add-next (λ c κs. search needs) returns returns-2)

@@ -9,45 +9,9 @@ use Rattle.state.specs.Table.{_⇒_else_}
 use Rattle.key.proofs.deliver.Statement.{statement}
 use Rattle.key.proofs.deliver.Tie as tie
 
-in-order-requires : tie.Need-in-order-requires
-in-order-requires c κs = search needs
-
-refused-requires : tie.Need-refused-requires
-refused-requires c κs = search needs
-
 returns : tie.Need-returns
 unfolding step lent _⇒_else_
 returns c = simp (c .refused .ensures, lt-ltb _ _ (c .before .if2 .taken), c .before .before .if1 .taken, sym (c .before .before .before .in-order .ensures))
-
-enum-known-f : tie.Need-enum-known-f
-enum-known-f c = search needs
-
-take-delivery-requires : tie.Need-take-delivery-requires
-take-delivery-requires c κs = search needs
-
-enum-told : tie.Need-enum-told
-enum-told c = search needs
-
-refused-requires-2 : tie.Need-refused-requires-2
-refused-requires-2 c κs = search needs
-
-enum-told-2 : tie.Need-enum-told-2
-enum-told-2 c = search needs
-
-refused-requires-3 : tie.Need-refused-requires-3
-refused-requires-3 c κs = search needs
-
-enum-told-3 : tie.Need-enum-told-3
-enum-told-3 c = search needs
-
-refused-requires-4 : tie.Need-refused-requires-4
-refused-requires-4 c κs = search needs
-
-refused-requires-5 : tie.Need-refused-requires-5
-refused-requires-5 c κs = search needs
-
-same-length : tie.Need-same-length
-same-length c = search needs
 
 returns-2 : tie.Need-returns-2
 returns-2 c =
@@ -80,19 +44,19 @@ pub deliver-spec : {M : Type 1} → statement M
 deliver-spec =
     tie.close
     (tie.spec
-    in-order-requires
-    refused-requires
+    (λ c κs. search needs)
+    (λ c κs. search needs)
     returns
-    enum-known-f
-    take-delivery-requires
-    enum-told
-    refused-requires-2
-    enum-told-2
-    refused-requires-3
-    enum-told-3
-    refused-requires-4
-    refused-requires-5
-    same-length
+    (λ c. search needs)
+    (λ c κs. search needs)
+    (λ c. search needs)
+    (λ c κs. search needs)
+    (λ c. search needs)
+    (λ c κs. search needs)
+    (λ c. search needs)
+    (λ c κs. search needs)
+    (λ c κs. search needs)
+    (λ c. search needs)
     returns-2
     returns-3
     returns-4

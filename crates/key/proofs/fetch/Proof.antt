@@ -11,68 +11,23 @@ use Rattle.machine.specs.Machine.{fetchRows, rows, lent, step}
 use Rattle.key.proofs.fetch.Statement.{statement}
 use Rattle.key.proofs.fetch.Tie as tie
 
-in-order-requires : tie.Need-in-order-requires
-in-order-requires c κs = search needs
-
-refused-requires : tie.Need-refused-requires
-refused-requires c κs = search needs
-
 returns : tie.Need-returns
 unfolding step lent rows fetchRows _⇒_else_
 returns c = simp (c .refused .ensures, lt-ltb _ _ (c .before .if2 .taken), c .before .before .if1 .taken, sym (c .before .before .before .in-order .ensures))
 
-refused-requires-2 : tie.Need-refused-requires-2
-refused-requires-2 c κs = search needs
-
 returns-2 : tie.Need-returns-2
 unfolding step lent rows fetchRows _⇒_else_
 returns-2 c = simp (c .refused2 .ensures, lt-ltb _ _ (c .before .if3 .taken), le-ltb _ _ (c .before .before .if2 .left), c .before .before .before .if1 .taken, sym (c .before .before .before .before .in-order .ensures))
-
-enum-known-f : tie.Need-enum-known-f
-enum-known-f c = search needs
 
 packet-of-requires : tie.Need-packet-of-requires
 packet-of-requires c κs =
     let g = answering-parts (c .before .before .before .before .before .before .before .before .before .before .before .args .s) _ _ _ _ (sym (c .before .before .before .before .before .before .before .before .in-order .ensures) ∙ c .before .before .before .before .before .before .before .if1 .taken) (c .before .before .f .given .1) in
     (starts-small _ (g .opens), g .size, omega (arith, g .size), g .more)
 
-send-requires : tie.Need-send-requires
-send-requires c κs = search needs
-
 advance-requires : tie.Need-advance-requires
 advance-requires c κs =
     let g = answering-parts (c .before .before .before .before .before .before .before .before .before .before .before .before .before .before .before .args .s) _ _ _ _ (sym (c .before .before .before .before .before .before .before .before .before .before .before .before .in-order .ensures) ∙ c .before .before .before .before .before .before .before .before .before .before .before .if1 .taken) (c .before .before .before .before .before .before .f .given .1) in
     (g .size, g .more)
-
-in-phase-requires : tie.Need-in-phase-requires
-in-phase-requires c κs = search needs
-
-replied-requires : tie.Need-replied-requires
-replied-requires c κs = search needs
-
-enum-told : tie.Need-enum-told
-enum-told c = search needs
-
-refused-requires-3 : tie.Need-refused-requires-3
-refused-requires-3 c κs = search needs
-
-enum-told-2 : tie.Need-enum-told-2
-enum-told-2 c = search needs
-
-refused-requires-4 : tie.Need-refused-requires-4
-refused-requires-4 c κs = search needs
-
-enum-told-3 : tie.Need-enum-told-3
-enum-told-3 c = search needs
-
-refused-requires-5 : tie.Need-refused-requires-5
-refused-requires-5 c κs = search needs
-
-refused-requires-6 : tie.Need-refused-requires-6
-refused-requires-6 c κs = search needs
-
-same-length : tie.Need-same-length
-same-length c = search needs
 
 returns-3 : tie.Need-returns-3
 unfolding fetchRows
@@ -113,25 +68,25 @@ pub fetch-spec : {M : Type 1} → statement M
 fetch-spec =
     tie.close
     (tie.spec
-    in-order-requires
-    refused-requires
+    (λ c κs. search needs)
+    (λ c κs. search needs)
     returns
-    refused-requires-2
+    (λ c κs. search needs)
     returns-2
-    enum-known-f
+    (λ c. search needs)
     packet-of-requires
-    send-requires
+    (λ c κs. search needs)
     advance-requires
-    in-phase-requires
-    replied-requires
-    enum-told
-    refused-requires-3
-    enum-told-2
-    refused-requires-4
-    enum-told-3
-    refused-requires-5
-    refused-requires-6
-    same-length
+    (λ c κs. search needs)
+    (λ c κs. search needs)
+    (λ c. search needs)
+    (λ c κs. search needs)
+    (λ c. search needs)
+    (λ c κs. search needs)
+    (λ c. search needs)
+    (λ c κs. search needs)
+    (λ c κs. search needs)
+    (λ c. search needs)
     returns-3
     returns-4
     returns-5

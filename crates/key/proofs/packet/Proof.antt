@@ -8,41 +8,20 @@ use Rattle.machine.specs.Machine.{packetRows, rows, lent, step}
 use Rattle.key.proofs.packet.Statement.{statement}
 use Rattle.key.proofs.packet.Tie as tie
 
-in-order-requires : tie.Need-in-order-requires
-in-order-requires c κs = search needs
-
-refused-requires : tie.Need-refused-requires
-refused-requires c κs = search needs
-
 returns : tie.Need-returns
 unfolding step lent rows packetRows opens _⇒_else_
 returns c = simp (c .refused .ensures, ne-eqb _ _ (c .before .if2 .taken), c .before .before .if1 .taken, sym (c .before .before .before .in-order .ensures))
-
-refused-requires-2 : tie.Need-refused-requires-2
-refused-requires-2 c κs = search needs
 
 returns-2 : tie.Need-returns-2
 unfolding step lent rows packetRows opens _⇒_else_
 returns-2 c = simp (c .refused2 .ensures, lt-ltb _ _ (c .before .if3 .taken), c .before .before .if2 .left, c .before .before .before .if1 .taken, sym (c .before .before .before .before .in-order .ensures))
 
-refused-requires-3 : tie.Need-refused-requires-3
-refused-requires-3 c κs = search needs
-
 returns-3 : tie.Need-returns-3
 unfolding step lent rows packetRows opens _⇒_else_
 returns-3 c = simp (c .refused3 .ensures, lt-ltb _ _ (c .before .if4 .taken), le-ltb _ _ (c .before .before .if3 .left), c .before .before .before .if2 .left, c .before .before .before .before .if1 .taken, sym (c .before .before .before .before .before .in-order .ensures))
 
-shared-slice-read-if5 : tie.Need-shared-slice-read-if5
-shared-slice-read-if5 c = search needs
-
 opening-requires : tie.Need-opening-requires
 opening-requires c κs = (sym (c .before .before .before .before .before .before .before .before .in-order .ensures) ∙ c .before .before .before .before .before .before .before .if1 .taken, c .before .before .before .before .before .before .if2 .left, c .before .before .before .before .before .if3 .left, c .before .before .before .before .if4 .left)
-
-same-length : tie.Need-same-length
-same-length c = search needs
-
-same-length-2 : tie.Need-same-length-2
-same-length-2 c = search needs
 
 returns-4 : tie.Need-returns-4
 unfolding step lent rows packetRows opens _⇒_else_
@@ -51,18 +30,9 @@ returns-4 c = simp (c .before .before .before .before .opening .ensures, le-leb 
 continuation-requires : tie.Need-continuation-requires
 continuation-requires c κs = (sym (c .before .before .before .before .before .before .before .before .in-order .ensures) ∙ c .before .before .before .before .before .before .before .if1 .taken, c .before .before .before .before .before .before .if2 .left, c .before .before .before .before .before .if3 .left, c .before .before .before .before .if4 .left)
 
-same-length-3 : tie.Need-same-length-3
-same-length-3 c = search needs
-
-same-length-4 : tie.Need-same-length-4
-same-length-4 c = search needs
-
 returns-5 : tie.Need-returns-5
 unfolding step lent rows packetRows opens _⇒_else_
 returns-5 c = simp (c .before .before .before .before .continuation .ensures, lt-leb _ _ (c .before .before .before .before .before .before .before .if5 .left), le-leb _ _ (c .before .before .before .before .before .before .before .before .before .if4 .left), le-ltb _ _ (c .before .before .before .before .before .before .before .before .before .if4 .left), le-leb _ _ (c .before .before .before .before .before .before .before .before .before .before .if3 .left), le-ltb _ _ (c .before .before .before .before .before .before .before .before .before .before .if3 .left), c .before .before .before .before .before .before .before .before .before .before .before .if2 .left, c .before .before .before .before .before .before .before .before .before .before .before .before .if1 .taken, sym (c .before .before .before .before .before .before .before .before .before .before .before .before .before .in-order .ensures))
-
-refused-requires-4 : tie.Need-refused-requires-4
-refused-requires-4 c κs = search needs
 
 returns-6 : tie.Need-returns-6
 unfolding step lent rows packetRows opens _⇒_else_
@@ -72,21 +42,21 @@ pub packet-spec : {M : Type 1} → statement M
 packet-spec =
     tie.close
     (tie.spec
-    in-order-requires
-    refused-requires
+    (λ c κs. search needs)
+    (λ c κs. search needs)
     returns
-    refused-requires-2
+    (λ c κs. search needs)
     returns-2
-    refused-requires-3
+    (λ c κs. search needs)
     returns-3
-    shared-slice-read-if5
+    (λ c. search needs)
     opening-requires
-    same-length
-    same-length-2
+    (λ c. search needs)
+    (λ c. search needs)
     returns-4
     continuation-requires
-    same-length-3
-    same-length-4
+    (λ c. search needs)
+    (λ c. search needs)
     returns-5
-    refused-requires-4
+    (λ c κs. search needs)
     returns-6)

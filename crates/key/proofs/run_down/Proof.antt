@@ -6,33 +6,9 @@ use Rattle.machine.specs.Machine.{timeRows}
 use Rattle.key.proofs.run_down.Statement.{statement}
 use Rattle.key.proofs.run_down.Tie as tie
 
-error-on-requires : tie.Need-error-on-requires
-error-on-requires c κs = search needs
-
-send-requires : tie.Need-send-requires
-send-requires c κs = search needs
-
-in-phase-requires : tie.Need-in-phase-requires
-in-phase-requires c κs = search needs
-
-replied-requires : tie.Need-replied-requires
-replied-requires c κs = search needs
-
-same-length : tie.Need-same-length
-same-length c = search needs
-
 returns : tie.Need-returns
 unfolding timeRows _⇒_else_
 returns c m = simp (c .replied .ensures, c .before .in-phase .ensures, c .before .before .before .before .send .ensures, c .before .before .before .before .before .error-on .ensures, le-leb _ _ (c .before .before .before .before .before .before .before .if1 .taken))
-
-sub-rest : tie.Need-sub-rest
-sub-rest c = search needs
-
-in-phase-requires-2 : tie.Need-in-phase-requires-2
-in-phase-requires-2 c κs = search needs
-
-quiet-requires : tie.Need-quiet-requires
-quiet-requires c κs = search needs
 
 returns-2 : tie.Need-returns-2
 unfolding timeRows _⇒_else_
@@ -42,13 +18,13 @@ pub run-down-spec : {M : Type 1} → statement M
 run-down-spec =
     tie.close
     (tie.spec
-    error-on-requires
-    send-requires
-    in-phase-requires
-    replied-requires
-    same-length
+    (λ c κs. search needs)
+    (λ c κs. search needs)
+    (λ c κs. search needs)
+    (λ c κs. search needs)
+    (λ c. search needs)
     returns
-    sub-rest
-    in-phase-requires-2
-    quiet-requires
+    (λ c. search needs)
+    (λ c κs. search needs)
+    (λ c κs. search needs)
     returns-2)

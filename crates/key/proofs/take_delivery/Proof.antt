@@ -6,38 +6,17 @@ use Rattle.machine.specs.Machine.{deliverRows}
 use Rattle.key.proofs.take_delivery.Statement.{statement}
 use Rattle.key.proofs.take_delivery.Tie as tie
 
-refused-requires : tie.Need-refused-requires
-refused-requires c κs = search needs
-
 returns : tie.Need-returns
 unfolding deliverRows _⇒_else_
 returns c = simp (c .refused .ensures, ne-eqb _ _ (c .before .if1 .taken))
-
-refused-requires-2 : tie.Need-refused-requires-2
-refused-requires-2 c κs = search needs
 
 returns-2 : tie.Need-returns-2
 unfolding deliverRows _⇒_else_
 returns-2 c = simp (c .refused2 .ensures, c .before .if2 .taken, eq-eqb _ _ (c .before .before .if1 .left))
 
-refused-requires-3 : tie.Need-refused-requires-3
-refused-requires-3 c κs = search needs
-
 returns-3 : tie.Need-returns-3
 unfolding deliverRows _⇒_else_
 returns-3 c = simp (c .refused3 .ensures, lt-ltb _ _ (c .before .if3 .taken), ne-eqb _ _ (c .before .before .if2 .left), eq-eqb _ _ (c .before .before .before .if1 .left))
-
-copy-front-requires : tie.Need-copy-front-requires
-copy-front-requires c κs = search needs
-
-in-phase-requires : tie.Need-in-phase-requires
-in-phase-requires c κs = search needs
-
-quiet-requires : tie.Need-quiet-requires
-quiet-requires c κs = search needs
-
-same-length : tie.Need-same-length
-same-length c = search needs
 
 returns-4 : tie.Need-returns-4
 unfolding deliverRows _⇒_else_
@@ -47,14 +26,14 @@ pub take-delivery-spec : {M : Type 1} → statement M
 take-delivery-spec =
     tie.close
     (tie.spec
-    refused-requires
+    (λ c κs. search needs)
     returns
-    refused-requires-2
+    (λ c κs. search needs)
     returns-2
-    refused-requires-3
+    (λ c κs. search needs)
     returns-3
-    copy-front-requires
-    in-phase-requires
-    quiet-requires
-    same-length
+    (λ c κs. search needs)
+    (λ c κs. search needs)
+    (λ c κs. search needs)
+    (λ c. search needs)
     returns-4)

@@ -10,51 +10,15 @@ use Rattle.state.specs.Table.{_⇒_else_}
 use Rattle.key.proofs.time_step.Statement.{statement}
 use Rattle.key.proofs.time_step.Tie as tie
 
-in-order-requires : tie.Need-in-order-requires
-in-order-requires c κs = search needs
-
-refused-requires : tie.Need-refused-requires
-refused-requires c κs = search needs
-
 returns : tie.Need-returns
 unfolding step lent _⇒_else_
 returns c m = simp (c .refused .ensures, lt-ltb _ _ (c .before .if2 .taken), c .before .before .if1 .taken, sym (c .before .before .before .in-order .ensures))
-
-enum-told : tie.Need-enum-told
-enum-told c = search needs
-
-quiet-requires : tie.Need-quiet-requires
-quiet-requires c κs = search needs
-
-enum-known-f : tie.Need-enum-known-f
-enum-known-f c = search needs
-
-run-down-requires : tie.Need-run-down-requires
-run-down-requires c κs = search needs
-
-enum-told-2 : tie.Need-enum-told-2
-enum-told-2 c = search needs
-
-quiet-requires-2 : tie.Need-quiet-requires-2
-quiet-requires-2 c κs = search needs
-
-enum-told-3 : tie.Need-enum-told-3
-enum-told-3 c = search needs
-
-quiet-requires-3 : tie.Need-quiet-requires-3
-quiet-requires-3 c κs = search needs
-
-refused-requires-2 : tie.Need-refused-requires-2
-refused-requires-2 c κs = search needs
 
 returns-2 : tie.Need-returns-2
 unfolding timeRows
 returns-2 c m =
     let a = c .before .before .before .before .before .before .before .before .args in
     simp (time-row (a .s) m _ (sym (c .before .before .before .before .before .before .in-order .ensures) ∙ c .before .before .before .before .before .if1 .taken) (c .before .enum-told .given .1) (a .elapsed) (length (now (a .reply))) (c .before .before .before .before .if2 .left), c .quiet .ensures)
-
-same-length : tie.Need-same-length
-same-length c = search needs
 
 returns-3 : tie.Need-returns-3
 returns-3 c m =
@@ -81,20 +45,20 @@ pub time-step-spec : {M : Type 1} → statement M
 time-step-spec =
     tie.close
     (tie.spec
-    in-order-requires
-    refused-requires
+    (λ c κs. search needs)
+    (λ c κs. search needs)
     returns
-    enum-told
-    quiet-requires
-    enum-known-f
-    run-down-requires
-    enum-told-2
-    quiet-requires-2
-    enum-told-3
-    quiet-requires-3
-    refused-requires-2
+    (λ c. search needs)
+    (λ c κs. search needs)
+    (λ c. search needs)
+    (λ c κs. search needs)
+    (λ c. search needs)
+    (λ c κs. search needs)
+    (λ c. search needs)
+    (λ c κs. search needs)
+    (λ c κs. search needs)
     returns-2
-    same-length
+    (λ c. search needs)
     returns-3
     returns-4
     returns-5

@@ -23,14 +23,8 @@ returns-4 : tie.Need-returns-4
 unfolding openingRows _⇒_else_
 returns-4 c = simp (lt-leb _ _ (c .if4 .left), c .before .if3 .left, c .before .before .if2 .left, c .before .before .before .if1 .taken)
 
-is-known-requires : tie.Need-is-known-requires
-is-known-requires c κs = search needs
-
 decide-known-requires : tie.Need-decide-known-requires
 decide-known-requires c κs = (ne-eqb _ _ (c .before .before .if1 .left), sym (c .before .is-known .ensures) ∙ c .if5 .taken)
-
-returns-5 : tie.Need-returns-5
-returns-5 c = search needs
 
 returns-6 : tie.Need-returns-6
 unfolding openingRows _⇒_else_
@@ -44,7 +38,7 @@ decide-spec =
     returns-2
     returns-3
     returns-4
-    is-known-requires
+    (λ c κs. search needs)
     decide-known-requires
-    returns-5
+    (λ c. search needs)
     returns-6)

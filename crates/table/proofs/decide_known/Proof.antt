@@ -7,9 +7,6 @@ use Rattle.table.specs.Opening.{openingRows}
 use Rattle.table.proofs.decide_known.Statement.{statement}
 use Rattle.table.proofs.decide_known.Tie as tie
 
-waits-requires : tie.Need-waits-requires
-waits-requires c κs = search needs
-
 returns : tie.Need-returns
 unfolding openingRows _⇒_else_
 returns c = simp (c .if2 .taken, sym (c .before .waits .ensures), c .before .before .if1 .taken, c .before .before .before .pre .0, c .before .before .before .pre .1)
@@ -17,9 +14,6 @@ returns c = simp (c .if2 .taken, sym (c .before .waits .ensures), c .before .bef
 returns-2 : tie.Need-returns-2
 unfolding openingRows _⇒_else_
 returns-2 c = simp (c .if2 .left, sym (c .before .waits .ensures), c .before .before .if1 .taken, c .before .before .before .pre .0, c .before .before .before .pre .1)
-
-is-other-requires : tie.Need-is-other-requires
-is-other-requires c κs = search needs
 
 returns-3 : tie.Need-returns-3
 unfolding openingRows _⇒_else_
@@ -33,25 +27,13 @@ returns-5 : tie.Need-returns-5
 unfolding openingRows _⇒_else_
 returns-5 c = simp (c .if5 .left, c .before .if4 .taken, c .before .before .if3 .left, sym (c .before .before .before .is-other .ensures), c .before .before .before .before .before .pre .0, c .before .before .before .before .before .pre .1)
 
-gathers-requires : tie.Need-gathers-requires
-gathers-requires c κs = search needs
-
 returns-6 : tie.Need-returns-6
 unfolding openingRows _⇒_else_
 returns-6 c = simp (c .if6 .taken, sym (c .before .gathers .ensures), ne-eqb _ _ (c .before .before .if4 .left), c .before .before .before .if3 .left, sym (c .before .before .before .before .is-other .ensures), ne-eqb _ _ (c .before .before .before .before .before .if1 .left), c .before .before .before .before .before .before .pre .0, c .before .before .before .before .before .before .pre .1)
 
-holds-requires : tie.Need-holds-requires
-holds-requires c κs = search needs
-
 returns-7 : tie.Need-returns-7
 unfolding openingRows _⇒_else_
 returns-7 c = simp (c .if7 .taken, sym (c .before .holds .ensures), c .before .before .if6 .left, sym (c .before .before .before .gathers .ensures), ne-eqb _ _ (c .before .before .before .before .if4 .left), c .before .before .before .before .before .if3 .left, sym (c .before .before .before .before .before .before .is-other .ensures), ne-eqb _ _ (c .before .before .before .before .before .before .before .if1 .left), c .before .before .before .before .before .before .before .before .pre .0, c .before .before .before .before .before .before .before .before .pre .1)
-
-opens-one-requires : tie.Need-opens-one-requires
-opens-one-requires c κs = search needs
-
-has-bad-length-requires : tie.Need-has-bad-length-requires
-has-bad-length-requires c κs = search needs
 
 returns-8 : tie.Need-returns-8
 unfolding openingRows _⇒_else_
@@ -69,19 +51,19 @@ pub decide-known-spec : {M : Type 1} → statement M
 decide-known-spec =
     tie.close
     (tie.spec
-    waits-requires
+    (λ c κs. search needs)
     returns
     returns-2
-    is-other-requires
+    (λ c κs. search needs)
     returns-3
     returns-4
     returns-5
-    gathers-requires
+    (λ c κs. search needs)
     returns-6
-    holds-requires
+    (λ c κs. search needs)
     returns-7
-    opens-one-requires
-    has-bad-length-requires
+    (λ c κs. search needs)
+    (λ c κs. search needs)
     returns-8
     returns-9
     returns-10)

@@ -10,9 +10,6 @@ returns : tie.Need-returns
 unfolding badLength
 returns c = simp (lt-ltb _ _ (c .if1 .taken))
 
-goes-to-core-requires : tie.Need-goes-to-core-requires
-goes-to-core-requires c κs = search needs
-
 returns-2 : tie.Need-returns-2
 unfolding badLength
 returns-2 c = simp (c .if2 .taken, sym (c .before .goes-to-core .ensures), le-ltb _ _ (c .before .before .if1 .left))
@@ -22,4 +19,4 @@ unfolding badLength
 returns-3 c = simp (c .if2 .left, sym (c .before .goes-to-core .ensures), le-ltb _ _ (c .before .before .if1 .left))
 
 pub has-bad-length-spec : {M : Type 1} → statement M
-has-bad-length-spec = tie.close (tie.spec returns goes-to-core-requires returns-2 returns-3)
+has-bad-length-spec = tie.close (tie.spec returns (λ c κs. search needs) returns-2 returns-3)

@@ -6,9 +6,6 @@ use Rattle.table.specs.Opening.{ifHolder}
 use Rattle.table.proofs.if_holder.Statement.{statement}
 use Rattle.table.proofs.if_holder.Tie as tie
 
-same-channel-requires : tie.Need-same-channel-requires
-same-channel-requires c κs = search needs
-
 returns : tie.Need-returns
 unfolding ifHolder _⇒_else_
 returns c = simp (c .if1 .taken, sym (c .before .same-channel .ensures))
@@ -18,4 +15,4 @@ unfolding ifHolder _⇒_else_
 returns-2 c = simp (c .if1 .left, sym (c .before .same-channel .ensures))
 
 pub if-holder-spec : {M : Type 1} → statement M
-if-holder-spec = tie.close (tie.spec same-channel-requires returns returns-2)
+if-holder-spec = tie.close (tie.spec (λ c κs. search needs) returns returns-2)

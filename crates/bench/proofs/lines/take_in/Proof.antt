@@ -14,44 +14,8 @@ Inv-loop input line₀ reply₀ message₀ desk₀ at₀ line reply message desk
 abbrev μ-loop : tie.MeasureT-loop
 μ-loop input line₀ reply₀ message₀ desk₀ at₀ line reply message desk at = length input + 1 - at
 
-loop-holds : tie.Need-loop-holds Inv-loop μ-loop
-loop-holds c = search needs
-
-find-requires : tie.Need-find-requires Inv-loop μ-loop
-find-requires c κs = search needs
-
-sub-take-piece : tie.Need-sub-take-piece Inv-loop μ-loop
-sub-take-piece c = search needs
-
-part-take-piece-start : tie.Need-part-take-piece-start Inv-loop μ-loop
-part-take-piece-start c = search needs
-
-part-take-piece-end : tie.Need-part-take-piece-end Inv-loop μ-loop
-part-take-piece-end c = search needs
-
-take-piece-requires : tie.Need-take-piece-requires Inv-loop μ-loop
-take-piece-requires c κs = search needs
-
 add-at : tie.Need-add-at Inv-loop μ-loop
 add-at c = omega (arith, c .before .before .before .before .before .before .before .before .before .before .before .before .before .before .before .before .before .before .good .1 .0)
-
-loop-less : tie.Need-loop-less Inv-loop μ-loop
-loop-less c = search needs
-
-loop-again : tie.Need-loop-again Inv-loop μ-loop
-loop-again c = search needs
-
-same-length : tie.Need-same-length Inv-loop μ-loop
-same-length c = search needs
-
-same-length-2 : tie.Need-same-length-2 Inv-loop μ-loop
-same-length-2 c = search needs
-
-same-length-3 : tie.Need-same-length-3 Inv-loop μ-loop
-same-length-3 c = search needs
-
-returns : tie.Need-returns Inv-loop μ-loop
-returns c = search needs
 
 pub take-in-spec : {M : Type 1} → statement M
 take-in-spec =
@@ -59,16 +23,16 @@ take-in-spec =
     (tie.spec
     Inv-loop
     μ-loop
-    loop-holds
-    find-requires
-    sub-take-piece
-    part-take-piece-start
-    part-take-piece-end
-    take-piece-requires
+    (λ c. search needs)
+    (λ c κs. search needs)
+    (λ c. search needs)
+    (λ c. search needs)
+    (λ c. search needs)
+    (λ c κs. search needs)
     add-at
-    loop-less
-    loop-again
-    same-length
-    same-length-2
-    same-length-3
-    returns)
+    (λ c. search needs)
+    (λ c. search needs)
+    (λ c. search needs)
+    (λ c. search needs)
+    (λ c. search needs)
+    (λ c. search needs))

@@ -7,32 +7,11 @@ use borrow.Author.Needs.{needs}
 use Rattle.bench.proofs.output.number.Statement.{statement}
 use Rattle.bench.proofs.output.number.Tie as tie
 
-decimal-requires : tie.Need-decimal-requires
-decimal-requires c κs = search needs
-
-slice-aggregate-text : tie.Need-slice-aggregate-text
-slice-aggregate-text c = search needs
-
-text-requires : tie.Need-text-requires
-text-requires c κs = search needs
-
-sub-text : tie.Need-sub-text
-sub-text c = search needs
-
-part-text-start : tie.Need-part-text-start
-part-text-start c = search needs
-
-part-text-end : tie.Need-part-text-end
-part-text-end c = search needs
-
 text-requires-2 : tie.Need-text-requires-2
 text-requires-2 c κs =
     let call = c .before .before .before .before .before .before .before .before .decimal in
     let fits = c .before .before .before .before .before .before .before .before .before .before .before .fits .n .fits in
     omega (arith, length-take-le (call .result - 0) (call .last .1 .0) (omega arith), digits-bound _ _ fits (call .ensures .1 .0))
-
-same-length : tie.Need-same-length
-same-length c = search needs
 
 returns : tie.Need-returns
 returns c =
@@ -44,12 +23,12 @@ pub number-spec : {M : Type 1} → statement M
 number-spec =
     tie.close
     (tie.spec
-    decimal-requires
-    slice-aggregate-text
-    text-requires
-    sub-text
-    part-text-start
-    part-text-end
+    (λ c κs. search needs)
+    (λ c. search needs)
+    (λ c κs. search needs)
+    (λ c. search needs)
+    (λ c. search needs)
+    (λ c. search needs)
     text-requires-2
-    same-length
+    (λ c. search needs)
     returns)

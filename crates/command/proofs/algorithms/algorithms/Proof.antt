@@ -42,9 +42,6 @@ item-end-requires c κs = let a = c .before .before .before .before .args in
 entry-requires : tie.Need-entry-requires Inv-loop μ-loop
 entry-requires c κs = step c .item
 
-enum-known-one : tie.Need-enum-known-one Inv-loop μ-loop
-enum-known-one c = search needs
-
 returns : tie.Need-returns Inv-loop μ-loop
 unfolding algorithmsOf
 returns c = let a = c .before .before .before .before .before .before .before .before .before .args in
@@ -52,12 +49,6 @@ returns c = let a = c .before .before .before .before .before .before .before .b
     let l = c .before .before .before .before .before .before .loop in
     let w = step (c .before .before .before .before) in
     sym (w .left .holds ∙ met-wrong (l .ours) (entryOf s (l .place)) (algorithmsOf s (placesAt (itemOf 2) (w .left .n) s (c .before .before .before .before .item-end .result))) _ (sym (c .before .before .before .entry .ensures) ∙ c .before .one .given .1))
-
-enum-told : tie.Need-enum-told Inv-loop μ-loop
-enum-told c = search needs
-
-enum-told-2 : tie.Need-enum-told-2 Inv-loop μ-loop
-enum-told-2 c = search needs
 
 loop-less : tie.Need-loop-less Inv-loop μ-loop
 loop-less c = let w = step (c .before .before .before) in omega (arith, w .on, w .fits)
@@ -105,10 +96,10 @@ algorithms-spec =
     loop-holds
     item-end-requires
     entry-requires
-    enum-known-one
+    (λ c. search needs)
     returns
-    enum-told
-    enum-told-2
+    (λ c. search needs)
+    (λ c. search needs)
     loop-less
     loop-again
     loop-less-2

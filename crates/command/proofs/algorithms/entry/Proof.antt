@@ -8,32 +8,11 @@ use Rattle.command.specs.Algorithms.{entryOf, algOf}
 use Rattle.command.proofs.algorithms.entry.Statement.{statement}
 use Rattle.command.proofs.algorithms.entry.Tie as tie
 
-major-requires : tie.Need-major-requires
-major-requires c κs = search needs
-
 returns : tie.Need-returns
 unfolding entryOf
 returns c = let a = c .before .before .before .args in
     let s = a .msg .now in
     rw (ne-eqb (majorAt s (a .at)) 5 (λ e. c .if1 .taken (c .before .major .ensures ∙ e)))
-
-slice-aggregate-find : tie.Need-slice-aggregate-find
-slice-aggregate-find c = search needs
-
-find-requires : tie.Need-find-requires
-find-requires c κs = search needs
-
-enum-known-alg : tie.Need-enum-known-alg
-enum-known-alg c = search needs
-
-major-requires-2 : tie.Need-major-requires-2
-major-requires-2 c κs = search needs
-
-type-of-requires : tie.Need-type-of-requires
-type-of-requires c κs = search needs
-
-enum-told : tie.Need-enum-told
-enum-told c = search needs
 
 returns-2 : tie.Need-returns-2
 unfolding entryOf algOf onFound
@@ -57,14 +36,14 @@ pub entry-spec : {M : Type 1} → statement M
 entry-spec =
     tie.close
     (tie.spec
-    major-requires
+    (λ c κs. search needs)
     returns
-    slice-aggregate-find
-    find-requires
-    enum-known-alg
-    major-requires-2
-    type-of-requires
-    enum-told
+    (λ c. search needs)
+    (λ c κs. search needs)
+    (λ c. search needs)
+    (λ c κs. search needs)
+    (λ c κs. search needs)
+    (λ c. search needs)
     returns-2
     returns-3
     returns-4)

@@ -4,11 +4,8 @@ use Rattle.command.proofs.Arguments.{seven-at}
 use Rattle.command.proofs.algorithms.minus_seven.Statement.{statement}
 use Rattle.command.proofs.algorithms.minus_seven.Tie as tie
 
-byte-requires : tie.Need-byte-requires
-byte-requires c κs = search needs
-
 returns : tie.Need-returns
 returns c = let a = c .before .before .args in rw (c .byte .ensures) (seven-at (a .msg .now) (a .at))
 
 pub minus-seven-spec : {M : Type 1} → statement M
-minus-seven-spec = tie.close (tie.spec byte-requires returns)
+minus-seven-spec = tie.close (tie.spec (λ c κs. search needs) returns)

@@ -4,12 +4,6 @@ use Rattle.command.specs.Algorithms.{oursOf}
 use Rattle.command.proofs.algorithms.ours.Statement.{statement}
 use Rattle.command.proofs.algorithms.ours.Tie as tie
 
-minus-seven-requires : tie.Need-minus-seven-requires
-minus-seven-requires c κs = search needs
-
-public-key-requires : tie.Need-public-key-requires
-public-key-requires c κs = search needs
-
 returns : tie.Need-returns
 unfolding oursOf
 returns c = rw (← c .before .before .before .minus-seven .ensures, c .before .before .if1 .taken, ← c .before .public-key .ensures, c .if2 .taken)
@@ -24,4 +18,4 @@ returns-3 c = rw (← c .before .minus-seven .ensures, c .if1 .left)
 
 pub ours-spec : {M : Type 1} → statement M
 ours-spec =
-    tie.close (tie.spec minus-seven-requires public-key-requires returns returns-2 returns-3)
+    tie.close (tie.spec (λ c κs. search needs) (λ c κs. search needs) returns returns-2 returns-3)

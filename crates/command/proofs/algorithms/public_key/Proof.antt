@@ -15,32 +15,11 @@ returns c = let a = c .before .before .args in
     let s = a .msg .now in
     sym (unlike (take 11 (drop (a .at) s)) publicKey (λ e. omega (arith, length-take 11 (drop (a .at) s), length-drop (a .at) s)))
 
-sub-if2 : tie.Need-sub-if2
-sub-if2 c = search needs
-
 returns-2 : tie.Need-returns-2
 unfolding isPublicKey
 returns-2 c = let a = c .before .before .before .args in
     let s = a .msg .now in
     sym (unlike (take 11 (drop (a .at) s)) publicKey (λ e. omega (arith, length-take 11 (drop (a .at) s), length-drop (a .at) s)))
-
-add-same-bytes : tie.Need-add-same-bytes
-add-same-bytes c = search needs
-
-sub-same-bytes : tie.Need-sub-same-bytes
-sub-same-bytes c = search needs
-
-part-same-bytes-start : tie.Need-part-same-bytes-start
-part-same-bytes-start c = search needs
-
-part-same-bytes-end : tie.Need-part-same-bytes-end
-part-same-bytes-end c = search needs
-
-slice-aggregate-same-bytes : tie.Need-slice-aggregate-same-bytes
-slice-aggregate-same-bytes c = search needs
-
-same-bytes-requires : tie.Need-same-bytes-requires
-same-bytes-requires c κs = search needs
 
 returns-3 : tie.Need-returns-3
 unfolding isPublicKey
@@ -54,12 +33,12 @@ public-key-spec =
     tie.close
     (tie.spec
     returns
-    sub-if2
+    (λ c. search needs)
     returns-2
-    add-same-bytes
-    sub-same-bytes
-    part-same-bytes-start
-    part-same-bytes-end
-    slice-aggregate-same-bytes
-    same-bytes-requires
+    (λ c. search needs)
+    (λ c. search needs)
+    (λ c. search needs)
+    (λ c. search needs)
+    (λ c. search needs)
+    (λ c κs. search needs)
     returns-3)

@@ -7,24 +7,6 @@ use Rattle.command.specs.Algorithms.{typeOf}
 use Rattle.command.proofs.algorithms.type_of.Statement.{statement}
 use Rattle.command.proofs.algorithms.type_of.Tie as tie
 
-slice-aggregate-find : tie.Need-slice-aggregate-find
-slice-aggregate-find c = search needs
-
-find-requires : tie.Need-find-requires
-find-requires c κs = search needs
-
-enum-known-kind : tie.Need-enum-known-kind
-enum-known-kind c = search needs
-
-major-requires : tie.Need-major-requires
-major-requires c κs = search needs
-
-ours-requires : tie.Need-ours-requires
-ours-requires c κs = search needs
-
-enum-told : tie.Need-enum-told
-enum-told c = search needs
-
 returns : tie.Need-returns
 unfolding typeOf onFound
 returns c = let a = c .before .before .before .before .before .before .before .before .before .args in
@@ -45,12 +27,12 @@ pub type-of-spec : {M : Type 1} → statement M
 type-of-spec =
     tie.close
     (tie.spec
-    slice-aggregate-find
-    find-requires
-    enum-known-kind
-    major-requires
-    ours-requires
-    enum-told
+    (λ c. search needs)
+    (λ c κs. search needs)
+    (λ c. search needs)
+    (λ c κs. search needs)
+    (λ c κs. search needs)
+    (λ c. search needs)
     returns
     returns-2
     returns-3)

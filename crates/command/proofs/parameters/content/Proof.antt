@@ -8,9 +8,6 @@ use Rattle.command.proofs.Runs.{item-fits}
 use Rattle.command.proofs.parameters.content.Statement.{statement}
 use Rattle.command.proofs.parameters.content.Tie as tie
 
-enum-told : tie.Need-enum-told
-enum-told c = search needs
-
 hash-value-requires : tie.Need-hash-value-requires
 unfolding kindIn
 hash-value-requires c κs = let a = c .before .before .before .before .args in
@@ -28,9 +25,6 @@ algorithms-requires c κs = (c .before .before .before .before .before .pre .0, 
 returns-2 : tie.Need-returns-2
 unfolding contentOf
 returns-2 c = rw (c .before .before .before .enum-told .given .1, c .before .if2 .taken) (c .algorithms .ensures)
-
-enum-told-2 : tie.Need-enum-told-2
-enum-told-2 c = search needs
 
 hash-value-requires-2 : tie.Need-hash-value-requires-2
 unfolding kindIn
@@ -54,12 +48,12 @@ pub content-spec : {M : Type 1} → statement M
 content-spec =
     tie.close
     (tie.spec
-    enum-told
+    (λ c. search needs)
     hash-value-requires
     returns
     algorithms-requires
     returns-2
-    enum-told-2
+    (λ c. search needs)
     hash-value-requires-2
     returns-3
     returns-4

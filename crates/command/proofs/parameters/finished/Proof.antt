@@ -6,24 +6,15 @@ use Rattle.command.specs.Pass.{finishedOf, requiredEnd}
 use Rattle.command.proofs.parameters.finished.Statement.{statement}
 use Rattle.command.proofs.parameters.finished.Tie as tie
 
-required-end-requires : tie.Need-required-end-requires
-required-end-requires c κs = search needs
-
 returns : tie.Need-returns
 unfolding finishedOf
 returns c = let a = c .before .before .before .args in
     rw (lt-ltb (a .wanted) (requiredEnd (a .c)) (omega (arith, c .if1 .taken, c .before .required-end .ensures)))
 
-none-ours-requires : tie.Need-none-ours-requires
-none-ours-requires c κs = search needs
-
 returns-2 : tie.Need-returns-2
 unfolding finishedOf
 returns-2 c = let a = c .before .before .before .before .before .args in
     rw (le-ltb (a .wanted) (requiredEnd (a .c)) (omega (arith, c .before .before .if1 .left, c .before .before .before .required-end .ensures)), ← c .before .none-ours .ensures, c .if2 .taken)
-
-shown-requires : tie.Need-shown-requires
-shown-requires c κs = search needs
 
 returns-3 : tie.Need-returns-3
 unfolding finishedOf
@@ -33,4 +24,4 @@ returns-3 c = let a = c .before .before .before .before .before .before .args in
 pub finished-spec : {M : Type 1} → statement M
 finished-spec =
     tie.close
-    (tie.spec required-end-requires returns none-ours-requires returns-2 shown-requires returns-3)
+    (tie.spec (λ c κs. search needs) returns (λ c κs. search needs) returns-2 (λ c κs. search needs) returns-3)

@@ -4,20 +4,8 @@ use Rattle.command.proofs.Answers.{one-map}
 use Rattle.command.proofs.parameters.hash_at.Statement.{statement}
 use Rattle.command.proofs.parameters.hash_at.Tie as tie
 
-enum-told : tie.Need-enum-told
-enum-told c = search needs
-
-slice-aggregate-find : tie.Need-slice-aggregate-find
-slice-aggregate-find c = search needs
-
 find-requires : tie.Need-find-requires
 find-requires c κs = one-map (c .before .before .before .before .args .msg .now) (c .before .before .before .before .pre)
-
-enum-told-2 : tie.Need-enum-told-2
-enum-told-2 c = search needs
-
-slice-aggregate-find-2 : tie.Need-slice-aggregate-find-2
-slice-aggregate-find-2 c = search needs
 
 find-requires-2 : tie.Need-find-requires-2
 find-requires-2 c κs = one-map (c .before .before .before .before .args .msg .now) (c .before .before .before .before .pre)
@@ -32,11 +20,11 @@ pub hash-at-spec : {M : Type 1} → statement M
 hash-at-spec =
     tie.close
     (tie.spec
-    enum-told
-    slice-aggregate-find
+    (λ c. search needs)
+    (λ c. search needs)
     find-requires
-    enum-told-2
-    slice-aggregate-find-2
+    (λ c. search needs)
+    (λ c. search needs)
     find-requires-2
     returns
     returns-2)

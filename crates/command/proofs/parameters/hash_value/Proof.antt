@@ -6,25 +6,10 @@ use Rattle.command.proofs.Arguments.{thirty-two, thirty-no-first, thirt
 use Rattle.command.proofs.parameters.hash_value.Statement.{statement}
 use Rattle.command.proofs.parameters.hash_value.Tie as tie
 
-byte-requires : tie.Need-byte-requires
-byte-requires c κs = search needs
-
-array-read-if1 : tie.Need-array-read-if1
-array-read-if1 c = search needs
-
 returns : tie.Need-returns
 unfolding hashValue
 returns c = let a = c .before .before .before .args in
     rw (thirty-no-first (a .msg .now) (a .at) (c .before .before .before .pre .1) (λ e. c .if1 .taken (c .before .byte .ensures ∙ e)))
-
-add-byte : tie.Need-add-byte
-add-byte c = search needs
-
-byte-requires-2 : tie.Need-byte-requires-2
-byte-requires-2 c κs = search needs
-
-array-read-if2 : tie.Need-array-read-if2
-array-read-if2 c = search needs
 
 returns-2 : tie.Need-returns-2
 unfolding hashValue
@@ -40,11 +25,11 @@ pub hash-value-spec : {M : Type 1} → statement M
 hash-value-spec =
     tie.close
     (tie.spec
-    byte-requires
-    array-read-if1
+    (λ c κs. search needs)
+    (λ c. search needs)
     returns
-    add-byte
-    byte-requires-2
-    array-read-if2
+    (λ c. search needs)
+    (λ c κs. search needs)
+    (λ c. search needs)
     returns-2
     returns-3)

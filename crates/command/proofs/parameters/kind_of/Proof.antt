@@ -5,12 +5,6 @@ use Rattle.command.specs.Pass.{kindIn}
 use Rattle.command.proofs.parameters.kind_of.Statement.{statement}
 use Rattle.command.proofs.parameters.kind_of.Tie as tie
 
-enum-told : tie.Need-enum-told
-enum-told c = search needs
-
-enum-told-2 : tie.Need-enum-told-2
-enum-told-2 c = search needs
-
 returns : tie.Need-returns
 unfolding kindIn
 returns c = rw (c .before .enum-told .given .1, c .match2 .keys1)
@@ -87,8 +81,8 @@ pub kind-of-spec : {M : Type 1} → statement M
 kind-of-spec =
     tie.close
     (tie.spec
-    enum-told
-    enum-told-2
+    (λ c. search needs)
+    (λ c. search needs)
     returns
     returns-2
     returns-3

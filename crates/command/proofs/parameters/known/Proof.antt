@@ -8,17 +8,11 @@ use Rattle.command.specs.Parameters.{parameterOf, rowsOf}
 use Rattle.command.proofs.parameters.known.Statement.{statement}
 use Rattle.command.proofs.parameters.known.Tie as tie
 
-kind-of-requires : tie.Need-kind-of-requires
-kind-of-requires c κs = search needs
-
 returns : tie.Need-returns
 unfolding knownOf
 returns c = let a = c .before .before .before .args in
     let k = kindIn (a .key) (rowsOf (a .c)) in
     rw (eq-eqb k 8 (sym (c .before .kind-of .ensures) ∙ c .if1 .taken))
-
-major-requires : tie.Need-major-requires
-major-requires c κs = search needs
 
 returns-2 : tie.Need-returns-2
 unfolding knownOf parameterOf
@@ -26,9 +20,6 @@ returns-2 c = let a = c .before .before .before .before .before .args in
     let s = a .msg .now in
     let k = kindIn (a .key) (rowsOf (a .c)) in
     rw (ne-eqb k 8 (λ e. c .before .before .if1 .left (c .before .before .before .kind-of .ensures ∙ e)), ne-eqb (majorAt s (a .at)) k (λ e. c .if2 .taken (c .before .major .ensures ∙ e ∙ sym (c .before .before .before .kind-of .ensures))))
-
-content-requires : tie.Need-content-requires
-content-requires c κs = search needs
 
 returns-3 : tie.Need-returns-3
 unfolding knownOf parameterOf
@@ -40,4 +31,4 @@ returns-3 c = let a = c .before .before .before .before .before .before .args in
 pub known-spec : {M : Type 1} → statement M
 known-spec =
     tie.close
-    (tie.spec kind-of-requires returns major-requires returns-2 content-requires returns-3)
+    (tie.spec (λ c κs. search needs) returns (λ c κs. search needs) returns-2 (λ c κs. search needs) returns-3)

@@ -12,17 +12,8 @@ make : (t : Bool) → not t ≡ noneOurs MakeCredential (soFar t)
 make true = refl
 make false = refl
 
-enum-told : tie.Need-enum-told
-enum-told c = search needs
-
-enum-told-2 : tie.Need-enum-told-2
-enum-told-2 c = search needs
-
 returns : tie.Need-returns
 returns c = rw (c .enum-told .given .1) (make (c .before .before .args .ours))
 
-returns-2 : tie.Need-returns-2
-returns-2 c = search needs
-
 pub none-ours-spec : {M : Type 1} → statement M
-none-ours-spec = tie.close (tie.spec enum-told enum-told-2 returns returns-2)
+none-ours-spec = tie.close (tie.spec (λ c. search needs) (λ c. search needs) returns (λ c. search needs))

@@ -10,37 +10,16 @@ use Rattle.command.specs.Check.{oneMap}
 use Rattle.command.proofs.parameters.one_map.Statement.{statement}
 use Rattle.command.proofs.parameters.one_map.Tie as tie
 
-major-requires : tie.Need-major-requires
-major-requires c κs = search needs
-
 returns : tie.Need-returns
 unfolding oneMap
 returns c = let a = c .before .before .before .args in
     let s = a .msg .now in
     rw (ne-eqb (majorAt s 1) 5 (λ e. c .if1 .taken (c .before .major .ensures ∙ e)))
 
-sub-read-item : tie.Need-sub-read-item
-sub-read-item c = search needs
-
-part-read-item-start : tie.Need-part-read-item-start
-part-read-item-start c = search needs
-
-part-read-item-end : tie.Need-part-read-item-end
-part-read-item-end c = search needs
-
-read-item-requires : tie.Need-read-item-requires
-read-item-requires c κs = search needs
-
-enum-known-found : tie.Need-enum-known-found
-enum-known-found c = search needs
-
 add-result : tie.Need-add-result
 add-result c = let a = c .before .before .before .before .before .before .before .before .args in
     let s = a .msg .now in
     omega (arith, found-within (itemOf 4) s 1 (c .before .before .before .read-item .ensures) (item-within 4) _ (c .before .found .given .1))
-
-enum-told : tie.Need-enum-told
-enum-told c = search needs
 
 returns-2 : tie.Need-returns-2
 unfolding oneMap
@@ -58,14 +37,14 @@ pub one-map-spec : {M : Type 1} → statement M
 one-map-spec =
     tie.close
     (tie.spec
-    major-requires
+    (λ c κs. search needs)
     returns
-    sub-read-item
-    part-read-item-start
-    part-read-item-end
-    read-item-requires
-    enum-known-found
+    (λ c. search needs)
+    (λ c. search needs)
+    (λ c. search needs)
+    (λ c κs. search needs)
+    (λ c. search needs)
     add-result
-    enum-told
+    (λ c. search needs)
     returns-2
     returns-3)

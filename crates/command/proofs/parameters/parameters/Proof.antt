@@ -6,9 +6,6 @@ use Rattle.command.proofs.Answers.{one-map}
 use Rattle.command.proofs.parameters.parameters.Statement.{statement}
 use Rattle.command.proofs.parameters.parameters.Tie as tie
 
-one-map-requires : tie.Need-one-map-requires
-one-map-requires c κs = search needs
-
 through-requires : tie.Need-through-requires
 through-requires c κs = sym (c .before .one-map .ensures) ∙ c .if1 .taken
 
@@ -21,4 +18,4 @@ unfolding parametersOf
 returns-2 c = rw (← c .before .one-map .ensures, c .if1 .left)
 
 pub parameters-spec : {M : Type 1} → statement M
-parameters-spec = tie.close (tie.spec one-map-requires through-requires returns returns-2)
+parameters-spec = tie.close (tie.spec (λ c κs. search needs) through-requires returns returns-2)

@@ -9,21 +9,12 @@ use Rattle.command.proofs.Runs.{map-value-read, item-fits}
 use Rattle.command.proofs.parameters.shown.Statement.{statement}
 use Rattle.command.proofs.parameters.shown.Tie as tie
 
-hash-at-requires : tie.Need-hash-at-requires
-hash-at-requires c κs = search needs
-
-enum-known-hash : tie.Need-enum-known-hash
-enum-known-hash c = search needs
-
 add-t6 : tie.Need-add-t6
 add-t6 c = let a = c .before .before .before .before .before .args in
     let s = a .msg .now in
     let m = one-map s (c .before .before .before .before .before .pre) in
     let v = map-value-read 3 s 1 _ (m .0) (m .1) _ _ (sym (c .before .before .before .hash-at .ensures) ∙ c .before .hash .given .1) in
     omega (arith, v .fits, item-fits 3 s _ _ (v .value) .0)
-
-enum-told : tie.Need-enum-told
-enum-told c = search needs
 
 returns : tie.Need-returns
 unfolding shownOf onFound
@@ -35,4 +26,4 @@ returns-2 c = rw (← c .before .before .hash-at .ensures, c .enum-told .given .
 
 pub shown-spec : {M : Type 1} → statement M
 shown-spec =
-    tie.close (tie.spec hash-at-requires enum-known-hash add-t6 enum-told returns returns-2)
+    tie.close (tie.spec (λ c κs. search needs) (λ c. search needs) add-t6 (λ c. search needs) returns returns-2)

@@ -63,20 +63,11 @@ loop-holds c = let a = c .before .before .args in
     let m = one-map s (c .before .before .pre) in
     map-start 3 s 1 (length s) _ (m .0) (m .1) (c .inside .ensures) _ (passed-none (a .c) s (mapAt 3 s 1))
 
-key-end-requires : tie.Need-key-end-requires Inv-loop μ-loop
-key-end-requires c κs = search needs
-
 item-end-requires : tie.Need-item-end-requires Inv-loop μ-loop
 item-end-requires c κs = let w = step c in omega (arith, w .on, w .fits)
 
-shared-slice-read-key : tie.Need-shared-slice-read-key Inv-loop μ-loop
-shared-slice-read-key c = search needs
-
 known-requires : tie.Need-known-requires Inv-loop μ-loop
 known-requires c κs = map-value _ _ _ _ _ _ (step (c .before .before)) _ (c .before .item-end .ensures)
-
-enum-known-one : tie.Need-enum-known-one Inv-loop μ-loop
-enum-known-one c = search needs
 
 returns : tie.Need-returns Inv-loop μ-loop
 unfolding settledOf
@@ -86,12 +77,6 @@ returns c = let a = c .before .before .before .before .before .before .before .b
     let k = c .before .before .before .before .before .before in
     let w = step k in
     sym (ap (settledOf (a .c) (mapAt 3 s 1)) (passed-wrong (a .c) s (l .place) (k .key-end .result) (k .key-end .result) (first k) _ (w .left .holds .1) (mapAt 3 s 1) (l .wanted) (l .ours) (w .left .holds .0) _ (sym (c .before .before .before .known .ensures) ∙ c .before .one .given .1)))
-
-enum-told : tie.Need-enum-told Inv-loop μ-loop
-enum-told c = search needs
-
-enum-told-2 : tie.Need-enum-told-2 Inv-loop μ-loop
-enum-told-2 c = search needs
 
 add-wanted : tie.Need-add-wanted Inv-loop μ-loop
 add-wanted c = let k = first (c .before .before .before .before .before) in omega (arith, k .low, c .if1 .taken)
@@ -118,9 +103,6 @@ loop-again-2 c = let a = c .before .before .before .before .before .before .befo
     let fb = first k in
     map-again (itemOf 3) s (length s) (l .place) (k .key-end .result) _ (step k) _ (c .before .before .before .before .item-end .ensures) _ (λ es h. passed-other (a .c) s (l .place) (k .key-end .result) (k .key-end .result) fb es (h .1) (mapAt 3 s 1) (l .wanted) (l .ours) (h .0) (c .before .match .ours) (more (c .before)) (c .if1 .left))
 
-finished-requires : tie.Need-finished-requires Inv-loop μ-loop
-finished-requires c κs = search needs
-
 returns-2 : tie.Need-returns-2 Inv-loop μ-loop
 returns-2 c = let a = c .before .before .before .before .before .args in
     let s = a .msg .now in
@@ -135,18 +117,18 @@ through-spec =
     μ-loop
     inside-requires
     loop-holds
-    key-end-requires
+    (λ c κs. search needs)
     item-end-requires
-    shared-slice-read-key
+    (λ c. search needs)
     known-requires
-    enum-known-one
+    (λ c. search needs)
     returns
-    enum-told
-    enum-told-2
+    (λ c. search needs)
+    (λ c. search needs)
     add-wanted
     loop-less
     loop-again
     loop-less-2
     loop-again-2
-    finished-requires
+    (λ c κs. search needs)
     returns-2)

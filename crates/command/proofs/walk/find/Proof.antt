@@ -52,9 +52,6 @@ part-same-bytes-start c = let w = step (c) in let i = within (c) in omega (arith
 part-same-bytes-end : tie.Need-part-same-bytes-end Inv-loop μ-loop
 part-same-bytes-end c = let w = step (c) in let i = within (c) in omega (arith, w .on, w .fits)
 
-same-bytes-requires : tie.Need-same-bytes-requires Inv-loop μ-loop
-same-bytes-requires c κs = search needs
-
 returns : tie.Need-returns Inv-loop μ-loop
 returns c = let w = step (c .before .before .before) in
     sym (w .left .holds ∙ value-same _ _ _ _ (sym (c .before .same-bytes .ensures) ∙ c .if1 .taken))
@@ -86,7 +83,7 @@ find-spec =
     sub-same-bytes
     part-same-bytes-start
     part-same-bytes-end
-    same-bytes-requires
+    (λ c κs. search needs)
     returns
     item-end-requires
     loop-less

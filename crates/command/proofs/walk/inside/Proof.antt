@@ -5,24 +5,6 @@ use Rattle.command.proofs.Runs.{shape-at}
 use Rattle.command.proofs.walk.inside.Statement.{statement}
 use Rattle.command.proofs.walk.inside.Tie as tie
 
-shared-slice-read-form : tie.Need-shared-slice-read-form
-shared-slice-read-form c = search needs
-
-add-result : tie.Need-add-result
-add-result c = search needs
-
-add-result-2 : tie.Need-add-result-2
-add-result-2 c = search needs
-
-add-result-3 : tie.Need-add-result-3
-add-result-3 c = search needs
-
-add-result-4 : tie.Need-add-result-4
-add-result-4 c = search needs
-
-add-result-5 : tie.Need-add-result-5
-add-result-5 c = search needs
-
 returns : tie.Need-returns
 returns c = let a = c .before .before .args in
     let s = a .msg .now in
@@ -52,12 +34,12 @@ pub inside-spec : {M : Type 1} → statement M
 inside-spec =
     tie.close
     (tie.spec
-    shared-slice-read-form
-    add-result
-    add-result-2
-    add-result-3
-    add-result-4
-    add-result-5
+    (λ c. search needs)
+    (λ c. search needs)
+    (λ c. search needs)
+    (λ c. search needs)
+    (λ c. search needs)
+    (λ c. search needs)
     returns
     returns-2
     returns-3

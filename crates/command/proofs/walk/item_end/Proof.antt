@@ -8,29 +8,11 @@ use Rattle.command.specs.Pass.{endOf}
 use Rattle.command.proofs.walk.item_end.Statement.{statement}
 use Rattle.command.proofs.walk.item_end.Tie as tie
 
-sub-read-item : tie.Need-sub-read-item
-sub-read-item c = search needs
-
-part-read-item-start : tie.Need-part-read-item-start
-part-read-item-start c = search needs
-
-part-read-item-end : tie.Need-part-read-item-end
-part-read-item-end c = search needs
-
-read-item-requires : tie.Need-read-item-requires
-read-item-requires c κs = search needs
-
-enum-known-found : tie.Need-enum-known-found
-enum-known-found c = search needs
-
 add-result : tie.Need-add-result
 add-result c = let a = c .before .before .before .before .before .before .args in
     let s = a .msg .now in
     let f = itemOf (a .levels) in
     omega (arith, found-within f s (a .at) (c .before .before .before .read-item .ensures) (item-within (a .levels)) _ (c .before .found .given .1))
-
-enum-told : tie.Need-enum-told
-enum-told c = search needs
 
 returns : tie.Need-returns
 returns c = let a = c .before .before .before .before .before .before .args in
@@ -48,12 +30,12 @@ pub item-end-spec : {M : Type 1} → statement M
 item-end-spec =
     tie.close
     (tie.spec
-    sub-read-item
-    part-read-item-start
-    part-read-item-end
-    read-item-requires
-    enum-known-found
+    (λ c. search needs)
+    (λ c. search needs)
+    (λ c. search needs)
+    (λ c κs. search needs)
+    (λ c. search needs)
     add-result
-    enum-told
+    (λ c. search needs)
     returns
     returns-2)

@@ -8,29 +8,11 @@ use Rattle.command.specs.Pass.{endOf}
 use Rattle.command.proofs.walk.key_end.Statement.{statement}
 use Rattle.command.proofs.walk.key_end.Tie as tie
 
-sub-read-key : tie.Need-sub-read-key
-sub-read-key c = search needs
-
-part-read-key-start : tie.Need-part-read-key-start
-part-read-key-start c = search needs
-
-part-read-key-end : tie.Need-part-read-key-end
-part-read-key-end c = search needs
-
-read-key-requires : tie.Need-read-key-requires
-read-key-requires c κs = search needs
-
-enum-known-found : tie.Need-enum-known-found
-enum-known-found c = search needs
-
 add-result : tie.Need-add-result
 add-result c = let a = c .before .before .before .before .before .before .args in
     let s = a .msg .now in
     let f = keyOf in
     omega (arith, found-within f s (a .at) (c .before .before .before .read-key .ensures) (key-within) _ (c .before .found .given .1))
-
-enum-told : tie.Need-enum-told
-enum-told c = search needs
 
 returns : tie.Need-returns
 returns c = let a = c .before .before .before .before .before .before .args in
@@ -48,12 +30,12 @@ pub key-end-spec : {M : Type 1} → statement M
 key-end-spec =
     tie.close
     (tie.spec
-    sub-read-key
-    part-read-key-start
-    part-read-key-end
-    read-key-requires
-    enum-known-found
+    (λ c. search needs)
+    (λ c. search needs)
+    (λ c. search needs)
+    (λ c κs. search needs)
+    (λ c. search needs)
     add-result
-    enum-told
+    (λ c. search needs)
     returns
     returns-2)

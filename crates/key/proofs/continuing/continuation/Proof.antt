@@ -13,30 +13,6 @@ use Rattle.state.specs.Table.{_⇒_else_}
 use Rattle.key.proofs.continuing.continuation.Statement.{statement}
 use Rattle.key.proofs.continuing.continuation.Tie as tie
 
-channel-of-requires : tie.Need-channel-of-requires
-channel-of-requires c κs = search needs
-
-enum-known-f : tie.Need-enum-known-f
-enum-known-f c = search needs
-
-same-channel-requires : tie.Need-same-channel-requires
-same-channel-requires c κs = search needs
-
-number-of-requires : tie.Need-number-of-requires
-number-of-requires c κs = search needs
-
-add-if2 : tie.Need-add-if2
-add-if2 c = search needs
-
-sub-take-payload : tie.Need-sub-take-payload
-sub-take-payload c = search needs
-
-part-take-payload-start : tie.Need-part-take-payload-start
-part-take-payload-start c = search needs
-
-part-take-payload-end : tie.Need-part-take-payload-end
-part-take-payload-end c = search needs
-
 take-payload-requires : tie.Need-take-payload-requires
 take-payload-requires c κs =
     let p = now (c .before .before .before .before .before .before .before .before .before .before .before .before .before .before .args .bytes) in
@@ -48,56 +24,17 @@ take-payload-requires c κs =
       omega arith,
     )
 
-same-length : tie.Need-same-length
-same-length c = search needs
-
 returns : tie.Need-returns
 returns c =
     let a = c .before .before .before .before .before .before .before .before .before .before .before .before .before .before .before .before .before .args in
     let t = continuing-next (a .s .work) (now (a .message)) (now (a .bytes)) (c .before .before .before .before .before .before .before .before .before .before .f .given .1) (c .before .before .before .before .before .before .before .before .before .before .before .before .before .channel-of .ensures) (sym (c .before .before .before .before .before .before .before .before .same-channel .ensures) ∙ c .before .before .before .before .before .before .before .if1 .taken) (rw (c .before .before .before .before .before .before .number-of .ensures .0) at (c .before .before .before .before .before .if2 .taken)) in
     rw t (silent _ _ _ (now (a .reply)) (taken-silent (a .s .work) _ _ _ _ _ _ (now (a .message))) (c .before .before .take-payload .ensures))
 
-error-on-requires : tie.Need-error-on-requires
-error-on-requires c κs = search needs
-
-send-requires : tie.Need-send-requires
-send-requires c κs = search needs
-
-in-phase-requires : tie.Need-in-phase-requires
-in-phase-requires c κs = search needs
-
-replied-requires : tie.Need-replied-requires
-replied-requires c κs = search needs
-
-same-length-2 : tie.Need-same-length-2
-same-length-2 c = search needs
-
 returns-2 : tie.Need-returns-2
 returns-2 c =
     let a = c .before .before .before .before .before .before .before .before .before .before .before .before .before .before .before .before .before .before .before .args in
     let t = continuing-wrong (a .s .work) (now (a .message)) (now (a .bytes)) (c .before .before .before .before .before .before .before .before .before .before .before .before .f .given .1) (c .before .before .before .before .before .before .before .before .before .before .before .before .before .before .before .channel-of .ensures) (sym (c .before .before .before .before .before .before .before .before .before .before .same-channel .ensures) ∙ c .before .before .before .before .before .before .before .before .before .if1 .taken) (λ e. c .before .before .before .before .before .before .before .if2 .left (rw (c .before .before .before .before .before .before .before .before .number-of .ensures .0) e)) in
     rw t (simp (c .replied .ensures, c .before .in-phase .ensures, c .before .before .before .before .send .ensures, c .before .before .before .before .before .error-on .ensures))
-
-quiet-requires : tie.Need-quiet-requires
-quiet-requires c κs = search needs
-
-enum-told : tie.Need-enum-told
-enum-told c = search needs
-
-quiet-requires-2 : tie.Need-quiet-requires-2
-quiet-requires-2 c κs = search needs
-
-enum-told-2 : tie.Need-enum-told-2
-enum-told-2 c = search needs
-
-quiet-requires-3 : tie.Need-quiet-requires-3
-quiet-requires-3 c κs = search needs
-
-enum-told-3 : tie.Need-enum-told-3
-enum-told-3 c = search needs
-
-quiet-requires-4 : tie.Need-quiet-requires-4
-quiet-requires-4 c κs = search needs
 
 returns-3 : tie.Need-returns-3
 returns-3 c =
@@ -121,30 +58,30 @@ pub continuation-spec : {M : Type 1} → statement M
 continuation-spec =
     tie.close
     (tie.spec
-    channel-of-requires
-    enum-known-f
-    same-channel-requires
-    number-of-requires
-    add-if2
-    sub-take-payload
-    part-take-payload-start
-    part-take-payload-end
+    (λ c κs. search needs)
+    (λ c. search needs)
+    (λ c κs. search needs)
+    (λ c κs. search needs)
+    (λ c. search needs)
+    (λ c. search needs)
+    (λ c. search needs)
+    (λ c. search needs)
     take-payload-requires
-    same-length
+    (λ c. search needs)
     returns
-    error-on-requires
-    send-requires
-    in-phase-requires
-    replied-requires
-    same-length-2
+    (λ c κs. search needs)
+    (λ c κs. search needs)
+    (λ c κs. search needs)
+    (λ c κs. search needs)
+    (λ c. search needs)
     returns-2
-    quiet-requires
-    enum-told
-    quiet-requires-2
-    enum-told-2
-    quiet-requires-3
-    enum-told-3
-    quiet-requires-4
+    (λ c κs. search needs)
+    (λ c. search needs)
+    (λ c κs. search needs)
+    (λ c. search needs)
+    (λ c κs. search needs)
+    (λ c. search needs)
+    (λ c κs. search needs)
     returns-3
     returns-4
     returns-5

@@ -3,11 +3,8 @@ use borrow.Author.Needs.{needs}
 use Rattle.key.proofs.gathering.hand.Statement.{statement}
 use Rattle.key.proofs.gathering.hand.Tie as tie
 
-wrapping-add-u32-requires : tie.Need-wrapping-add-u32-requires
-wrapping-add-u32-requires c κs = search needs
-
 returns : tie.Need-returns
 returns c = simp (c .wrapping-add-u32 .ensures)
 
 pub hand-spec : {M : Type 1} → statement M
-hand-spec = tie.close (tie.spec wrapping-add-u32-requires returns)
+hand-spec = tie.close (tie.spec (λ c κs. search needs) returns)

@@ -15,18 +15,6 @@ put-payload-requires c κs = (starts-within _ _ (c .before .before .before .pre 
 add-done : tie.Need-add-done
 add-done c = record { fits = omega (arith, at-most-129 (c .before .before .before .before .before .before .args .size) (omega arith)) }
 
-count-requires : tie.Need-count-requires
-count-requires c κs = search needs
-
-in-phase-requires : tie.Need-in-phase-requires
-in-phase-requires c κs = search needs
-
-quiet-requires : tie.Need-quiet-requires
-quiet-requires c κs = search needs
-
-same-length : tie.Need-same-length
-same-length c = search needs
-
 returns : tie.Need-returns
 returns c =
     let a = c .before .before .before .before .before .before .before .before .before .before .args in
@@ -37,12 +25,6 @@ returns c =
       c .before .in-phase .ensures,
       c .before .before .before .before .before .before .put-payload .ensures,
     )
-
-complete-requires : tie.Need-complete-requires
-complete-requires c κs = search needs
-
-same-length-2 : tie.Need-same-length-2
-same-length-2 c = search needs
 
 returns-2 : tie.Need-returns-2
 returns-2 c =
@@ -60,11 +42,11 @@ take-payload-spec =
     (tie.spec
     put-payload-requires
     add-done
-    count-requires
-    in-phase-requires
-    quiet-requires
-    same-length
+    (λ c κs. search needs)
+    (λ c κs. search needs)
+    (λ c κs. search needs)
+    (λ c. search needs)
     returns
-    complete-requires
-    same-length-2
+    (λ c κs. search needs)
+    (λ c. search needs)
     returns-2)

@@ -12,31 +12,10 @@ use Rattle.wire.proofs.Copies.{to-the-end}
 use Rattle.key.proofs.opening.open_message.Statement.{statement}
 use Rattle.key.proofs.opening.open_message.Tie as tie
 
-channel-of-requires : tie.Need-channel-of-requires
-channel-of-requires c κs = search needs
-
-command-of-requires : tie.Need-command-of-requires
-command-of-requires c κs = search needs
-
-length-of-requires : tie.Need-length-of-requires
-length-of-requires c κs = search needs
-
-sub-take-payload : tie.Need-sub-take-payload
-sub-take-payload c = search needs
-
-part-take-payload-start : tie.Need-part-take-payload-start
-part-take-payload-start c = search needs
-
-part-take-payload-end : tie.Need-part-take-payload-end
-part-take-payload-end c = search needs
-
 take-payload-requires : tie.Need-take-payload-requires
 take-payload-requires c κs =
     let p = now (c .before .before .before .before .before .before .before .args .bytes) in
     (omega arith, at-least-1 (c .before .before .length-of .result), simp (to-the-end p 7, length-drop) (omega (arith, first-fits (c .before .before .length-of .result) 0 refl)), omega arith)
-
-same-length : tie.Need-same-length
-same-length c = search needs
 
 returns : tie.Need-returns
 returns c =
@@ -48,12 +27,12 @@ pub open-message-spec : {M : Type 1} → statement M
 open-message-spec =
     tie.close
     (tie.spec
-    channel-of-requires
-    command-of-requires
-    length-of-requires
-    sub-take-payload
-    part-take-payload-start
-    part-take-payload-end
+    (λ c κs. search needs)
+    (λ c κs. search needs)
+    (λ c κs. search needs)
+    (λ c. search needs)
+    (λ c. search needs)
+    (λ c. search needs)
     take-payload-requires
-    same-length
+    (λ c. search needs)
     returns)

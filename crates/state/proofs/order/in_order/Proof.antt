@@ -7,9 +7,6 @@ use Rattle.state.specs.Order.{inOrder}
 use Rattle.state.proofs.order.in_order.Statement.{statement}
 use Rattle.state.proofs.order.in_order.Tie as tie
 
-phase-in-order-requires : tie.Need-phase-in-order-requires
-phase-in-order-requires c κs = search needs
-
 returns : tie.Need-returns
 unfolding inOrder all _⇒_else_
 returns c = simp (last-test, sym (c .phase-in-order .ensures), le-leb _ _ (c .before .if1 .taken))
@@ -19,4 +16,4 @@ unfolding inOrder all _⇒_else_
 returns-2 c = simp (lt-leb _ _ (c .if1 .left))
 
 pub in-order-spec : {M : Type 1} → statement M
-in-order-spec = tie.close (tie.spec phase-in-order-requires returns returns-2)
+in-order-spec = tie.close (tie.spec (λ c κs. search needs) returns returns-2)

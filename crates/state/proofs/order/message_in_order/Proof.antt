@@ -7,15 +7,6 @@ use Rattle.state.specs.Order.{messageInOrder}
 use Rattle.state.proofs.order.message_in_order.Statement.{statement}
 use Rattle.state.proofs.order.message_in_order.Tie as tie
 
-is-known-requires : tie.Need-is-known-requires
-is-known-requires c κs = search needs
-
-count-requires : tie.Need-count-requires
-count-requires c κs = search needs
-
-opens-one-requires : tie.Need-opens-one-requires
-opens-one-requires c κs = search needs
-
 returns : tie.Need-returns
 unfolding messageInOrder all _⇒_else_
 returns c = simp (last-test, sym (c .opens-one .ensures), lt-ltb _ _ (c .before .if3 .taken), sym (c .before .before .count .ensures), le-leb _ _ (c .before .before .before .if2 .taken), c .before .before .before .before .if1 .taken, sym (c .before .before .before .before .before .is-known .ensures))
@@ -36,9 +27,9 @@ pub message-in-order-spec : {M : Type 1} → statement M
 message-in-order-spec =
     tie.close
     (tie.spec
-    is-known-requires
-    count-requires
-    opens-one-requires
+    (λ c κs. search needs)
+    (λ c κs. search needs)
+    (λ c κs. search needs)
     returns
     returns-2
     returns-3

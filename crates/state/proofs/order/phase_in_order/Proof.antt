@@ -7,37 +7,13 @@ use Rattle.state.specs.Order.{phaseInOrder}
 use Rattle.state.proofs.order.phase_in_order.Statement.{statement}
 use Rattle.state.proofs.order.phase_in_order.Tie as tie
 
-enum-told : tie.Need-enum-told
-enum-told c = search needs
-
-enum-known-f : tie.Need-enum-known-f
-enum-known-f c = search needs
-
-message-in-order-requires : tie.Need-message-in-order-requires
-message-in-order-requires c κs = search needs
-
 returns : tie.Need-returns
 unfolding phaseInOrder all _⇒_else_
 returns c = simp (last-test, le-leb _ _ (c .if3 .taken), le-leb _ _ (c .before .if2 .taken), c .before .before .if1 .taken, sym (c .before .before .before .message-in-order .ensures), c .before .before .before .before .before .f .given .1)
 
-enum-known-f-2 : tie.Need-enum-known-f-2
-enum-known-f-2 c = search needs
-
-is-known-requires : tie.Need-is-known-requires
-is-known-requires c κs = search needs
-
-goes-to-core-requires : tie.Need-goes-to-core-requires
-goes-to-core-requires c κs = search needs
-
 returns-2 : tie.Need-returns-2
 unfolding phaseInOrder all _⇒_else_
 returns-2 c = simp (last-test, sym (c .goes-to-core .ensures), le-leb _ _ (c .before .if5 .taken), c .before .before .if4 .taken, sym (c .before .before .before .is-known .ensures), c .before .before .before .before .before .f2 .given .1)
-
-enum-known-f-3 : tie.Need-enum-known-f-3
-enum-known-f-3 c = search needs
-
-message-in-order-requires-2 : tie.Need-message-in-order-requires-2
-message-in-order-requires-2 c κs = search needs
 
 returns-3 : tie.Need-returns-3
 unfolding phaseInOrder all _⇒_else_
@@ -71,16 +47,16 @@ pub phase-in-order-spec : {M : Type 1} → statement M
 phase-in-order-spec =
     tie.close
     (tie.spec
-    enum-told
-    enum-known-f
-    message-in-order-requires
+    (λ c. search needs)
+    (λ c. search needs)
+    (λ c κs. search needs)
     returns
-    enum-known-f-2
-    is-known-requires
-    goes-to-core-requires
+    (λ c. search needs)
+    (λ c κs. search needs)
+    (λ c κs. search needs)
     returns-2
-    enum-known-f-3
-    message-in-order-requires-2
+    (λ c. search needs)
+    (λ c κs. search needs)
     returns-3
     returns-4
     returns-5

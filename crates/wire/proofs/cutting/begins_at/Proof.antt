@@ -10,9 +10,6 @@ returns : tie.Need-returns
 unfolding begins
 returns c = rw (c .if1 .taken)
 
-sub-result : tie.Need-sub-result
-sub-result c = search needs
-
 mul-result : tie.Need-mul-result
 mul-result c =
     let a = c .before .args in
@@ -29,4 +26,4 @@ returns-2 c =
     omega (arith, begins-later (a .first) (a .later) (a .k) (c .if1 .left))
 
 pub begins-at-spec : {M : Type 1} → statement M
-begins-at-spec = tie.close (tie.spec returns sub-result mul-result add-result returns-2)
+begins-at-spec = tie.close (tie.spec returns (λ c. search needs) mul-result add-result returns-2)

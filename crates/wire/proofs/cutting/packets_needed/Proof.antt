@@ -14,18 +14,6 @@ returns c =
     let a = c .before .args in
     omega (arith, div-eq-of-lt {n = a .n - a .first + pred (a .later)} {m = a .later} (omega arith))
 
-sub-result : tie.Need-sub-result
-sub-result c = search needs
-
-sub-result-2 : tie.Need-sub-result-2
-sub-result-2 c = search needs
-
-add-result : tie.Need-add-result
-add-result c = search needs
-
-div-result : tie.Need-div-result
-div-result c = search needs
-
 add-result-2 : tie.Need-add-result-2
 add-result-2 c =
     let a = c .before .args in
@@ -41,4 +29,4 @@ returns-2 c =
 pub packets-needed-spec : {M : Type 1} → statement M
 packets-needed-spec =
     tie.close
-    (tie.spec returns sub-result sub-result-2 add-result div-result add-result-2 returns-2)
+    (tie.spec returns (λ c. search needs) (λ c. search needs) (λ c. search needs) (λ c. search needs) add-result-2 returns-2)

@@ -8,12 +8,6 @@ use Rattle.wire.proofs.Cuts.{carries-within}
 use Rattle.wire.proofs.cutting.put_payload.Statement.{statement}
 use Rattle.wire.proofs.cutting.put_payload.Tie as tie
 
-begins-at-requires : tie.Need-begins-at-requires
-begins-at-requires c κs = search needs
-
-carried-requires : tie.Need-carried-requires
-carried-requires c κs = search needs
-
 slice-aggregate-copy-at : tie.Need-slice-aggregate-copy-at
 slice-aggregate-copy-at c = simp length-take (omega arith)
 
@@ -21,9 +15,6 @@ copy-at-requires : tie.Need-copy-at-requires
 copy-at-requires c κs =
     let a = c .before .before .before .before .before .before .args in
     simp length-take (omega (arith, carries-within (a .first) (a .later) (a .n) (a .k) (omega arith)))
-
-same-length : tie.Need-same-length
-same-length c = search needs
 
 returns : tie.Need-returns
 unfolding put
@@ -38,9 +29,9 @@ pub put-payload-spec : {M : Type 1} → statement M
 put-payload-spec =
     tie.close
     (tie.spec
-    begins-at-requires
-    carried-requires
+    (λ c κs. search needs)
+    (λ c κs. search needs)
     slice-aggregate-copy-at
     copy-at-requires
-    same-length
+    (λ c. search needs)
     returns)

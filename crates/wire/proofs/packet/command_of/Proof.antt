@@ -4,9 +4,6 @@ use Rattle.wire.specs.Packet.{commandOf}
 use Rattle.wire.proofs.packet.command_of.Statement.{statement}
 use Rattle.wire.proofs.packet.command_of.Tie as tie
 
-shared-slice-read-byte4 : tie.Need-shared-slice-read-byte4
-shared-slice-read-byte4 c = search needs
-
 returns : tie.Need-returns
 unfolding commandOf
 returns c = search needs
@@ -16,4 +13,4 @@ unfolding commandOf
 returns-2 c = search needs
 
 pub command-of-spec : {M : Type 1} → statement M
-command-of-spec = tie.close (tie.spec shared-slice-read-byte4 returns returns-2)
+command-of-spec = tie.close (tie.spec (λ c. search needs) returns returns-2)

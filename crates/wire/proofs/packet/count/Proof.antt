@@ -4,12 +4,9 @@ use Rattle.wire.specs.Packet.{packets}
 use Rattle.wire.proofs.packet.count.Statement.{statement}
 use Rattle.wire.proofs.packet.count.Tie as tie
 
-packets-needed-requires : tie.Need-packets-needed-requires
-packets-needed-requires c κs = search needs
-
 returns : tie.Need-returns
 unfolding packets
 returns c = search needs
 
 pub count-spec : {M : Type 1} → statement M
-count-spec = tie.close (tie.spec packets-needed-requires returns)
+count-spec = tie.close (tie.spec (λ c κs. search needs) returns)

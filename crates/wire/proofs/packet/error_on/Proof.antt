@@ -6,9 +6,6 @@ use Rattle.wire.proofs.Packets.{at-least-1}
 use Rattle.wire.proofs.packet.error_on.Statement.{statement}
 use Rattle.wire.proofs.packet.error_on.Tie as tie
 
-slice-aggregate-packet-of : tie.Need-slice-aggregate-packet-of
-slice-aggregate-packet-of c = search needs
-
 packet-of-requires : tie.Need-packet-of-requires
 packet-of-requires c κs = (omega arith, omega arith, omega arith, at-least-1 1)
 
@@ -17,4 +14,4 @@ unfolding errorOn
 returns c = c .packet-of .ensures
 
 pub error-on-spec : {M : Type 1} → statement M
-error-on-spec = tie.close (tie.spec slice-aggregate-packet-of packet-of-requires returns)
+error-on-spec = tie.close (tie.spec (λ c. search needs) packet-of-requires returns)

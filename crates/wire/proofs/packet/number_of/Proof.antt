@@ -4,15 +4,9 @@ use Rattle.wire.specs.Packet.{numberOf}
 use Rattle.wire.proofs.packet.number_of.Statement.{statement}
 use Rattle.wire.proofs.packet.number_of.Tie as tie
 
-shared-slice-read-size : tie.Need-shared-slice-read-size
-shared-slice-read-size c = search needs
-
-size-requires : tie.Need-size-requires
-size-requires c κs = search needs
-
 returns : tie.Need-returns
 unfolding numberOf
 returns c = search needs
 
 pub number-of-spec : {M : Type 1} → statement M
-number-of-spec = tie.close (tie.spec shared-slice-read-size size-requires returns)
+number-of-spec = tie.close (tie.spec (λ c. search needs) (λ c κs. search needs) returns)

@@ -18,17 +18,8 @@ carried-requires c κs = (starts-within _ _ (omega arith), omega arith)
 add-end : tie.Need-add-end
 add-end c = record { fits = omega (arith, ends-within (c .before .before .before .args .n) (c .before .before .before .args .k) (omega arith)) }
 
-sub-payload : tie.Need-sub-payload
-sub-payload c = search needs
-
-part-payload-start : tie.Need-part-payload-start
-part-payload-start c = search needs
-
 part-payload-end : tie.Need-part-payload-end
 part-payload-end c = omega (arith, ends-within (c .before .before .before .args .n) (c .before .before .before .args .k) (omega arith))
-
-opening-header-requires : tie.Need-opening-header-requires
-opening-header-requires c κs = search needs
 
 with-payload-requires : tie.Need-with-payload-requires
 with-payload-requires c κs = simp length-take (omega (arith, first-fits (c .before .before .before .before .before .before .args .n) (c .before .before .before .before .before .before .args .k) (c .before .if1 .taken)))
@@ -40,15 +31,6 @@ returns c =
     rw (c .before .opening-header .ensures) at (c .with-payload .ensures)
     ∙ first-packet (a .c) (a .command) (a .n) _ _ (now (a .buffer)) (a .k) (c .before .before .if1 .taken) (c .before .before .before .before .before .begins-at .ensures) (c .before .before .before .before .carried .ensures) in
     b
-
-sub-later-header : tie.Need-sub-later-header
-sub-later-header c = search needs
-
-cast-later-header : tie.Need-cast-later-header
-cast-later-header c = search needs
-
-later-header-requires : tie.Need-later-header-requires
-later-header-requires c κs = search needs
 
 with-payload-requires-2 : tie.Need-with-payload-requires-2
 with-payload-requires-2 c κs = simp length-take (omega (arith, later-fits (c .before .before .before .before .before .before .args .n) (c .before .before .before .before .before .before .args .k) (c .before .if1 .left)))
@@ -66,14 +48,14 @@ packet-of-spec =
     begins-at-requires
     carried-requires
     add-end
-    sub-payload
-    part-payload-start
+    (λ c. search needs)
+    (λ c. search needs)
     part-payload-end
-    opening-header-requires
+    (λ c κs. search needs)
     with-payload-requires
     returns
-    sub-later-header
-    cast-later-header
-    later-header-requires
+    (λ c. search needs)
+    (λ c. search needs)
+    (λ c κs. search needs)
     with-payload-requires-2
     returns-2)
