@@ -9,6 +9,7 @@ ghost use mathlib.Core.Path.{_≡_};
 ghost use mathlib.Core.Bool.{true};
 ghost use Prim.Native.Nat.{_≤_};
 ghost use lib.ListN.{length};
+ghost use Rattle.wire.specs.Packet.{packetSize, longest};
 ghost use Rattle.state.specs.Order.{inOrder};
 ghost use Rattle.machine.specs.Machine.{beside, continuing};
 ghost use Rattle.machine.specs.Call.{effect, asked};
@@ -16,7 +17,7 @@ ghost use Rattle.machine.specs.Call.{effect, asked};
 // Of the gathering holder with the number expected, it adds its payload; with another number the transaction ends. Every other
 // continuation draws nothing: the channel is compared before a byte is stored.
 pub fn continuation(s: State, bytes: &[u8], reply: &mut [u8], message: &mut [u8]) -> Outcome
-    requires { ⌜ (inOrder s ≡ true) × (length (now bytes) ≡ 64) × (64 ≤ length (now reply)) × (7609 ≤ length (now message)) ⌝ }
+    requires { ⌜ (inOrder s ≡ true) × (length (now bytes) ≡ packetSize) × (packetSize ≤ length (now reply)) × (longest ≤ length (now message)) ⌝ }
     ensures { λ r. ⌜ effect r (now (reply .exit)) (now (message .exit)) ≡ asked (now (reply .entry)) (beside (s .given) (continuing (s .work) (s .work .phase) (now (message .entry)) (now (bytes .entry)))) ⌝ }
 {
     let c = packet::channel_of(bytes);

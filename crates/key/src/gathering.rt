@@ -15,7 +15,7 @@ ghost use mathlib.Core.List.{[]};
 ghost use Prim.Native.Nat.{_≤_, _<_};
 ghost use lib.ListN.{length};
 ghost use Rattle.wire.specs.Cutting.{carries};
-ghost use Rattle.wire.specs.Packet.{packets};
+ghost use Rattle.wire.specs.Packet.{firstRoom, laterRoom, longest, packets};
 ghost use Rattle.machine.specs.Machine.{beside, handed, judged, completed, taken};
 ghost use Rattle.machine.specs.Call.{effect, outcomeOf, asked};
 
@@ -50,7 +50,7 @@ fn judge(
     found: Checked,
     message: &mut [u8],
 ) -> Outcome
-    requires { ⌜ 7609 ≤ length (now message) ⌝ }
+    requires { ⌜ longest ≤ length (now message) ⌝ }
     ensures { λ r. ⌜ effect r [] (now (message .exit)) ≡ asked [] (beside (s .given) (judged (s .work) holder command size (now (message .entry)) found)) ⌝ }
 {
     match found {
@@ -71,7 +71,7 @@ fn judge(
 
 // The message stands complete in the buffer: PING is answering with its own bytes, CBOR is checked.
 fn complete(s: State, holder: Channel, command: u8, size: usize, message: &mut [u8]) -> Outcome
-    requires { ⌜ (size ≤ 7609) × (7609 ≤ length (now message)) ⌝ }
+    requires { ⌜ (size ≤ longest) × (longest ≤ length (now message)) ⌝ }
     ensures { λ r. ⌜ effect r [] (now (message .exit)) ≡ asked [] (beside (s .given) (completed (s .work) holder command size (now (message .entry)))) ⌝ }
 {
     if command == packet::PING {
@@ -98,7 +98,7 @@ pub fn take_payload(
     payload: &[u8],
     message: &mut [u8],
 ) -> Outcome
-    requires { ⌜ (size ≤ 7609) × (k < packets size) × (carries 57 59 size k ≤ length (now payload)) × (7609 ≤ length (now message)) ⌝ }
+    requires { ⌜ (size ≤ longest) × (k < packets size) × (carries firstRoom laterRoom size k ≤ length (now payload)) × (longest ≤ length (now message)) ⌝ }
     ensures { λ r. ⌜ effect r [] (now (message .exit)) ≡ asked [] (beside (s .given) (taken (s .work) holder command size k left (now (payload .entry)) (now (message .entry)))) ⌝ }
 {
     cutting::put_payload(packet::FIRST, packet::LATER, size, k, payload, message);

@@ -12,8 +12,8 @@ use wire::packet;
 ghost use mathlib.Core.Path.{_≡_};
 ghost use mathlib.Core.List.{List, []};
 ghost use Prim.Native.Nat.{ℕ, _≤_, _<_};
-ghost use Rattle.wire.specs.Packet.{packets};
 ghost use lib.ListN.{length};
+ghost use Rattle.wire.specs.Packet.{packetSize, longest, packets};
 ghost use Rattle.machine.specs.Machine.{beside, timeRows, deliverRows, advanced};
 ghost use Rattle.machine.specs.Call.{effect, asked, packetCall, timeCall, deliverCall, fetchCall};
 
@@ -54,7 +54,7 @@ fn run_down(
     elapsed: u32,
     reply: &mut [u8],
 ) -> Outcome
-    requires { ⌜ 64 ≤ length (now reply) ⌝ }
+    requires { ⌜ packetSize ≤ length (now reply) ⌝ }
     ensures { λ r. ⌜ ((m : List ℕ) → effect r (now (reply .exit)) m ≡ asked (now (reply .entry)) (beside (s .given) (timeRows (s .work) (Phase.Gathering holder command size done left) elapsed m))) ⌝ }
 {
     if left <= elapsed {
@@ -118,7 +118,7 @@ fn take_delivery(
     bytes: &[u8],
     message: &mut [u8],
 ) -> Outcome
-    requires { ⌜ 7609 ≤ length (now message) ⌝ }
+    requires { ⌜ longest ≤ length (now message) ⌝ }
     ensures { λ r. ⌜ effect r [] (now (message .exit)) ≡ asked [] (beside (s .given) (deliverRows (s .work) (Phase.Waiting holder command size) ticket (now (bytes .entry)) (now (message .entry)))) ⌝ }
 {
     let work = s.work;
@@ -180,7 +180,7 @@ pub fn deliver(s: State, ticket: Ticket, bytes: &[u8], message: &mut [u8]) -> Ou
 
 // The reply with one packet more done, or idle after the last.
 fn advance(holder: Channel, command: u8, size: usize, done: usize) -> Phase
-    requires { ⌜ (size ≤ 7609) × (done < packets size) ⌝ }
+    requires { ⌜ (size ≤ longest) × (done < packets size) ⌝ }
     ensures { λ r. ⌜ r ≡ advanced holder command size done ⌝ }
 {
     let next = done + 1;

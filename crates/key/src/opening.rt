@@ -13,8 +13,8 @@ ghost use mathlib.Core.Bool.{true};
 ghost use mathlib.Core.List.{[]};
 ghost use Prim.Native.Nat.{_+_, _≤_};
 ghost use lib.ListN.{length};
-ghost use Rattle.wire.specs.Packet.{lengthOf};
-ghost use Rattle.state.specs.Order.{inOrder};
+ghost use Rattle.wire.specs.Packet.{packetSize, longest, lengthOf};
+ghost use Rattle.state.specs.Order.{channels, inOrder};
 ghost use Rattle.machine.specs.Machine.{at, carriedOut, opening};
 ghost use Rattle.machine.specs.Call.{effect, asked};
 
@@ -23,7 +23,7 @@ const KEEPALIVE_CANCEL: u8 = 0x2D;
 
 // The state with one channel more.
 fn one_more(s: State) -> State
-    requires { ⌜ s .given ≤ 65535 ⌝ }
+    requires { ⌜ s .given ≤ channels ⌝ }
     ensures { λ r. ⌜ r ≡ at (s .given + 1) (s .work) ⌝ }
 {
     let work = s.work;
@@ -35,7 +35,7 @@ fn one_more(s: State) -> State
 
 // The opening packet's payload is taken.
 fn open_message(s: State, bytes: &[u8], message: &mut [u8]) -> Outcome
-    requires { ⌜ (lengthOf (now bytes) ≤ 7609) × (length (now bytes) ≡ 64) × (7609 ≤ length (now message)) ⌝ }
+    requires { ⌜ (lengthOf (now bytes) ≤ longest) × (length (now bytes) ≡ packetSize) × (longest ≤ length (now message)) ⌝ }
     ensures { λ r. ⌜ effect r [] (now (message .exit)) ≡ asked [] (carriedOut Verdict.Opened s (now (message .entry)) (now (bytes .entry))) ⌝ }
 {
     let c = packet::channel_of(bytes);
@@ -55,7 +55,7 @@ fn open_message(s: State, bytes: &[u8], message: &mut [u8]) -> Outcome
 
 // What the verdict does.
 fn carry_out(v: Verdict, s: State, bytes: &[u8], reply: &mut [u8], message: &mut [u8]) -> Outcome
-    requires { ⌜ (v ≡ Verdict.Opened → lengthOf (now bytes) ≤ 7609) × (s .given ≤ 65535) × (length (now bytes) ≡ 64) × (64 ≤ length (now reply)) × (7609 ≤ length (now message)) ⌝ }
+    requires { ⌜ (v ≡ Verdict.Opened → lengthOf (now bytes) ≤ longest) × (s .given ≤ channels) × (length (now bytes) ≡ packetSize) × (packetSize ≤ length (now reply)) × (longest ≤ length (now message)) ⌝ }
     ensures { λ r. ⌜ effect r (now (reply .exit)) (now (message .exit)) ≡ asked (now (reply .entry)) (carriedOut v s (now (message .entry)) (now (bytes .entry))) ⌝ }
 {
     let c = packet::channel_of(bytes);
@@ -92,7 +92,7 @@ fn carry_out(v: Verdict, s: State, bytes: &[u8], reply: &mut [u8], message: &mut
 }
 
 pub fn opening(s: State, bytes: &[u8], reply: &mut [u8], message: &mut [u8]) -> Outcome
-    requires { ⌜ (inOrder s ≡ true) × (length (now bytes) ≡ 64) × (64 ≤ length (now reply)) × (7609 ≤ length (now message)) ⌝ }
+    requires { ⌜ (inOrder s ≡ true) × (length (now bytes) ≡ packetSize) × (packetSize ≤ length (now reply)) × (longest ≤ length (now message)) ⌝ }
     ensures { λ r. ⌜ effect r (now (reply .exit)) (now (message .exit)) ≡ asked (now (reply .entry)) (opening s (now (message .entry)) (now (bytes .entry))) ⌝ }
 {
     let c = packet::channel_of(bytes);

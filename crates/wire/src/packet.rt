@@ -7,7 +7,7 @@ ghost use Prim.Native.Nat.{_+_, _≤_, _<_};
 ghost use mathlib.Core.List.{[], _∷_, _++_};
 ghost use lib.ListN.{length};
 ghost use Rattle.wire.specs.Copying.{onto, overwrite};
-ghost use Rattle.wire.specs.Packet.{packets, bytes4, bytes2, filled, channelOf, commandOf, lengthOf, numberOf, packetOf, errorOn, initReply};
+ghost use Rattle.wire.specs.Packet.{packetSize, longest, packets, bytes4, bytes2, filled, channelOf, commandOf, lengthOf, numberOf, packetOf, errorOn, initReply};
 
 // Every packet has 64 bytes; an opening packet has room for 57 bytes of payload, a continuation for 59.
 pub const SIZE: usize = 64;
@@ -44,7 +44,7 @@ fn size(b: u8) -> usize
 
 // Bytes 0 to 3: the channel, big-endian.
 pub fn channel_of(packet: &[u8]) -> Channel
-    requires { ⌜ 64 ≤ length (now packet) ⌝ }
+    requires { ⌜ packetSize ≤ length (now packet) ⌝ }
     ensures { λ r. ⌜ r ≡ channelOf (now (packet .entry)) ⌝ }
 {
     let high = wide(packet[0]) * 256 + wide(packet[1]);
@@ -53,7 +53,7 @@ pub fn channel_of(packet: &[u8]) -> Channel
 
 // Byte 4 of an opening packet, minus 128: the command.
 pub fn command_of(packet: &[u8]) -> u8
-    requires { ⌜ 64 ≤ length (now packet) ⌝ }
+    requires { ⌜ packetSize ≤ length (now packet) ⌝ }
     ensures { λ r. ⌜ r ≡ commandOf (now (packet .entry)) ⌝ }
 {
     let byte4 = packet[4];
@@ -65,7 +65,7 @@ pub fn command_of(packet: &[u8]) -> u8
 
 // Bytes 5 and 6 of an opening packet: the message's length.
 pub fn length_of(packet: &[u8]) -> usize
-    requires { ⌜ 64 ≤ length (now packet) ⌝ }
+    requires { ⌜ packetSize ≤ length (now packet) ⌝ }
     ensures { λ r. ⌜ r ≡ lengthOf (now (packet .entry)) ⌝ }
 {
     size(packet[5]) * 256 + size(packet[6])
@@ -73,7 +73,7 @@ pub fn length_of(packet: &[u8]) -> usize
 
 // Byte 4 of a continuation: its number.
 pub fn number_of(packet: &[u8]) -> usize
-    requires { ⌜ 64 ≤ length (now packet) ⌝ }
+    requires { ⌜ packetSize ≤ length (now packet) ⌝ }
     ensures { λ r. ⌜ (r ≡ numberOf (now (packet .entry))) × (r < 256) ⌝ }
 {
     size(packet[4])
@@ -114,7 +114,7 @@ fn later_header(c: Channel, byte4: u8) -> [u8; 64]
 
 // A header with the payload behind it.
 fn with_payload(header: [u8; 64], at: usize, payload: &[u8]) -> [u8; 64]
-    requires { ⌜ at + length (now payload) ≤ 64 ⌝ }
+    requires { ⌜ at + length (now payload) ≤ packetSize ⌝ }
     ensures { λ r. ⌜ r ≡ overwrite at (now (payload .entry)) header ⌝ }
 {
     let mut p = header;
@@ -124,7 +124,7 @@ fn with_payload(header: [u8; 64], at: usize, payload: &[u8]) -> [u8; 64]
 
 // Packet k of a message of n bytes that stands at the front of a buffer.
 pub fn packet_of(c: Channel, command: u8, n: usize, k: usize, buffer: &[u8]) -> [u8; 64]
-    requires { ⌜ (command < 128) × (n ≤ 7609) × (n ≤ length (now buffer)) × (k < packets n) ⌝ }
+    requires { ⌜ (command < 128) × (n ≤ longest) × (n ≤ length (now buffer)) × (k < packets n) ⌝ }
     ensures { λ r. ⌜ r ≡ packetOf c command n k (now (buffer .entry)) ⌝ }
 {
     let at = cutting::begins_at(FIRST, LATER, k);
@@ -146,7 +146,7 @@ pub fn error_on(c: Channel, code: u8) -> [u8; 64]
 
 // INIT reply on the packet's channel: its 8 nonce bytes, the channel, then protocol 2, device 1.0.0, flags CBOR and no MSG.
 pub fn init_reply(packet: &[u8], given: Channel) -> [u8; 64]
-    requires { ⌜ 64 ≤ length (now packet) ⌝ }
+    requires { ⌜ packetSize ≤ length (now packet) ⌝ }
     ensures { λ r. ⌜ r ≡ initReply (now (packet .entry)) given ⌝ }
 {
     let n = given.0;
@@ -164,7 +164,7 @@ pub fn init_reply(packet: &[u8], given: Channel) -> [u8; 64]
 
 // A packet into the reply buffer's first 64 bytes.
 pub fn send(reply: &mut [u8], packet: [u8; 64])
-    requires { ⌜ 64 ≤ length (now reply) ⌝ }
+    requires { ⌜ packetSize ≤ length (now reply) ⌝ }
     ensures { λ _. ⌜ now (reply .exit) ≡ onto packet (now (reply .entry)) ⌝ }
 {
     copying::copy_front(reply, &packet);
