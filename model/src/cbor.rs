@@ -46,10 +46,13 @@ pub fn item_length(bytes: &[u8], levels: u8) -> Result<usize, Breach> {
     Ok(reader.at)
 }
 
-/// The order of encoded keys: the shorter first, equal lengths byte by byte (RFC 7049, section
-/// 3.9).
+/// The order of encoded keys: the lower major type first, then the shorter, then byte by byte
+/// (X.1278, clause 11).
 pub fn key_order(one: &[u8], other: &[u8]) -> Ordering {
-    one.len().cmp(&other.len()).then_with(|| one.cmp(other))
+    let major = |key: &[u8]| key.first().map(|first| first >> 5);
+    (major(one).cmp(&major(other)))
+        .then(one.len().cmp(&other.len()))
+        .then_with(|| one.cmp(other))
 }
 
 /// Bytes and how far they are read.
@@ -221,8 +224,10 @@ mod tests {
     fn key_order() {
         assert_eq!(item_length(&[0xA2, 0, 0, 0, 0], LEVELS), Err(Breach));
         let shorter_first = [0xA2, 0x60, 0x00, 0x18, 0x18, 0x00];
-        assert_eq!(item_length(&shorter_first, LEVELS), Ok(6));
-        let longer_first = [0xA2, 0x18, 0x18, 0x00, 0x60, 0x00];
+        assert_eq!(item_length(&shorter_first, LEVELS), Err(Breach));
+        let lower_major_first = [0xA2, 0x18, 0x18, 0x00, 0x60, 0x00];
+        assert_eq!(item_length(&lower_major_first, LEVELS), Ok(6));
+        let longer_first = [0xA2, 0x18, 0x18, 0x00, 0x00, 0x00];
         assert_eq!(item_length(&longer_first, LEVELS), Err(Breach));
     }
 

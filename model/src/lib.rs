@@ -6,7 +6,7 @@
 //! (the line protocol, also as the program `model-bench`). Nothing is proved of it; it is there to
 //! be compared. It is also the ordinary Rust version against which speed is measured.
 //!
-//! `cargo test --release` in this folder runs the unit tests, the scripts of `../vectors/base` and
+//! `cargo test --release` in this folder runs the unit tests, the scripts of `../vectors` and
 //! `../examples`, and the program `bench` against the model: table by table, and on random scripts
 //! of 250,000 events. It wants the program that `rt check bench` makes at the top of the repository;
 //! `BENCH` and `BENCH_RUNNER` name another or say how to run it (see [`trial::program`]). The random

@@ -1,4 +1,5 @@
-//! Scripts with their answers: those of `vectors/base`, which come from an independent reading of document 01, and those of `examples`.
+//! Scripts with their answers: those of `vectors`, which come from an independent reading of the documents, and those of `examples`.
+//! `vectors/03` has the order of keys that request 2026-03 brought.
 
 use std::fs;
 use std::path::{Path, PathBuf};
@@ -28,7 +29,8 @@ fn scripts(folder: &str, ending: &str) -> Vec<PathBuf> {
 fn vectors() -> Vec<(PathBuf, Vec<u8>, Vec<u8>)> {
     let read =
         |path: &Path| fs::read(path).unwrap_or_else(|error| panic!("{}: {error}", path.display()));
-    let mut paths = scripts("vectors/base", "in");
+    let mut paths = scripts("vectors", "in");
+    paths.extend(scripts("vectors/03", "in"));
     paths.extend(scripts("examples", "txt"));
     paths
         .into_iter()

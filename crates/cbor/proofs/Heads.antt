@@ -31,10 +31,11 @@ pub record Shape (b : ℕ) (s : List ℕ) (k : Kind) (v l : ℕ) : Type 0 where
   pub kind : b / 32 < 6 → k ≡ kindOf (b / 32)
   pub simple : 6 ≤ b / 32 → k ≡ Simple
   pub small : b % 32 < 24 → (l ≡ 1) × (v ≡ b % 32)
-  pub one : b % 32 ≡ 24 → (l ≡ 2) × (v ≡ u8At s 1)
-  pub two : b % 32 ≡ 25 → (l ≡ 3) × (0x100 ≤ v)
-  pub four : b % 32 ≡ 26 → (l ≡ 5) × (0x1_0000 ≤ v)
-  pub eight : 26 < b % 32 → (l ≡ 9) × (0x1_0000_0000 ≤ v)
+  pub one : b % 32 ≡ 24 → (l ≡ 2) × (v ≡ u8At s 1) × (0x18 ≤ v)
+  pub two : b % 32 ≡ 25 → (l ≡ 3) × (v ≡ u16At s 1) × (0x100 ≤ v)
+  pub four : b % 32 ≡ 26 → (l ≡ 5) × (v ≡ u32At s 1) × (0x1_0000 ≤ v)
+  pub eight : 26 < b % 32 → (l ≡ 9) × (v ≡ u64At s 1) × (0x1_0000_0000 ≤ v)
+  pub last-form : b % 32 < 28
   pub some : 0 < l
   pub fits : l ≤ length s
 
@@ -53,30 +54,33 @@ module _ (b : ℕ) (s : List ℕ) (n : 0 < length s) where
     two = λ w. absurd (omega arith);
     four = λ w. absurd (omega arith);
     eight = λ w. absurd (omega arith);
+    last-form = omega arith;
     some = omega arith;
     fits = n;
   }
 
-  -- the argument follows
-  module _ (m : b / 32 < 6) (i : 24 ≤ b % 32) where
-    long-shaped : (l v least : ℕ) → 0 < l → (b % 32 ≡ 24 → (l ≡ 2) × (v ≡ u8At s 1)) → (b % 32 ≡ 25 → (l ≡ 3) × (least ≡ 0x100)) → (b % 32 ≡ 26 → (l ≡ 5) × (least ≡ 0x1_0000)) → (26 < b % 32 → (l ≡ 9) × (least ≡ 0x1_0000_0000)) → Shaped b s (longHead (kindOf (b / 32)) s l v least)
-    unfolding longHead shortestOf
-    long-shaped l v least p e1 e2 e4 e8 = go (leb l (length s)) (leb least v) refl refl
-      where
-        go : (x y : Bool) → leb l (length s) ≡ x → leb least v ≡ y → Shaped b s (if x then (if y then Of (kindOf (b / 32)) v l else Bad) else Bad)
-        go true true f g = let w : least ≤ v = leb-true _ _ g in record {
-          kind = λ _. refl;
-          simple = λ h. absurd (omega arith);
-          small = λ h. absurd (omega arith);
-          one = e1;
-          two = λ h. (e2 h .0, omega (arith, e2 h .1));
-          four = λ h. (e4 h .0, omega (arith, e4 h .1));
-          eight = λ h. (e8 h .0, omega (arith, e8 h .1));
-          some = p;
-          fits = leb-true _ _ f;
-        }
-        go true false f g = tt
-        go false y f g = tt
+  -- the argument follows, in a head of l bytes
+  module _ (m : b / 32 < 6) (i : 24 ≤ b % 32) (f : b % 32 < 28) where
+    module _ (l v least : ℕ) (p : 0 < l) where
+      long-shaped : (b % 32 ≡ 24 → (l ≡ 2) × (v ≡ u8At s 1) × (least ≡ 0x18)) → (b % 32 ≡ 25 → (l ≡ 3) × (v ≡ u16At s 1) × (least ≡ 0x100)) → (b % 32 ≡ 26 → (l ≡ 5) × (v ≡ u32At s 1) × (least ≡ 0x1_0000)) → (26 < b % 32 → (l ≡ 9) × (v ≡ u64At s 1) × (least ≡ 0x1_0000_0000)) → Shaped b s (longHead (kindOf (b / 32)) s l v least)
+      unfolding longHead shortestOf
+      long-shaped e1 e2 e4 e8 = go (leb l (length s)) (leb least v) refl refl
+        where
+          go : (x y : Bool) → leb l (length s) ≡ x → leb least v ≡ y → Shaped b s (if x then (if y then Of (kindOf (b / 32)) v l else Bad) else Bad)
+          go true true q r = let w : least ≤ v = leb-true _ _ r in record {
+            kind = λ _. refl;
+            simple = λ h. absurd (omega arith);
+            small = λ h. absurd (omega arith);
+            one = λ h. (e1 h .0, e1 h .1, omega (arith, e1 h .2));
+            two = λ h. (e2 h .0, e2 h .1, omega (arith, e2 h .2));
+            four = λ h. (e4 h .0, e4 h .1, omega (arith, e4 h .2));
+            eight = λ h. (e8 h .0, e8 h .1, omega (arith, e8 h .2));
+            last-form = f;
+            some = p;
+            fits = leb-true _ _ q;
+          }
+          go true false q r = tt
+          go false y q r = tt
 
     form-shaped : Shaped b s (headInForm (kindOf (b / 32)) (b % 32 - 24) s)
     unfolding headInForm
@@ -84,26 +88,26 @@ module _ (b : ℕ) (s : List ℕ) (n : 0 < length s) where
       where
         go : (x y z : Bool) → eqb (b % 32 - 24) 0 ≡ x → eqb (b % 32 - 24) 1 ≡ y → eqb (b % 32 - 24) 2 ≡ z → Shaped b s (if x then longHead (kindOf (b / 32)) s 2 (u8At s 1) 0x18 else if y then longHead (kindOf (b / 32)) s 3 (u16At s 1) 0x100 else if z then longHead (kindOf (b / 32)) s 5 (u32At s 1) 0x1_0000 else longHead (kindOf (b / 32)) s 9 (u64At s 1) 0x1_0000_0000)
         go true y z p q r =
-            let f : b % 32 ≡ 24 = omega (arith, eqb-true (b % 32 - 24) 0 p) in
-            long-shaped 2 (u8At s 1) 0x18 (omega arith) (λ h. (refl, refl)) (λ h. absurd (omega arith)) (λ h. absurd (omega arith)) (λ h. absurd (omega arith))
+            let g : b % 32 ≡ 24 = omega (arith, eqb-true (b % 32 - 24) 0 p) in
+            long-shaped 2 (u8At s 1) 0x18 (omega arith) (λ h. (refl, refl, refl)) (λ h. absurd (omega arith)) (λ h. absurd (omega arith)) (λ h. absurd (omega arith))
         go false true z p q r =
-            let f : b % 32 ≡ 25 = omega (arith, eqb-true (b % 32 - 24) 1 q) in
-            long-shaped 3 (u16At s 1) 0x100 (omega arith) (λ h. absurd (omega arith)) (λ h. (refl, refl)) (λ h. absurd (omega arith)) (λ h. absurd (omega arith))
+            let g : b % 32 ≡ 25 = omega (arith, eqb-true (b % 32 - 24) 1 q) in
+            long-shaped 3 (u16At s 1) 0x100 (omega arith) (λ h. absurd (omega arith)) (λ h. (refl, refl, refl)) (λ h. absurd (omega arith)) (λ h. absurd (omega arith))
         go false false true p q r =
-            let f : b % 32 ≡ 26 = omega (arith, eqb-true (b % 32 - 24) 2 r) in
-            long-shaped 5 (u32At s 1) 0x1_0000 (omega arith) (λ h. absurd (omega arith)) (λ h. absurd (omega arith)) (λ h. (refl, refl)) (λ h. absurd (omega arith))
+            let g : b % 32 ≡ 26 = omega (arith, eqb-true (b % 32 - 24) 2 r) in
+            long-shaped 5 (u32At s 1) 0x1_0000 (omega arith) (λ h. absurd (omega arith)) (λ h. absurd (omega arith)) (λ h. (refl, refl, refl)) (λ h. absurd (omega arith))
         go false false false p q r =
-            let f : 26 < b % 32 = omega (arith, eqb-false (b % 32 - 24) 0 p, eqb-false (b % 32 - 24) 1 q, eqb-false (b % 32 - 24) 2 r) in
-            long-shaped 9 (u64At s 1) 0x1_0000_0000 (omega arith) (λ h. absurd (omega arith)) (λ h. absurd (omega arith)) (λ h. absurd (omega arith)) (λ h. (refl, refl))
+            let g : 26 < b % 32 = omega (arith, eqb-false (b % 32 - 24) 0 p, eqb-false (b % 32 - 24) 1 q, eqb-false (b % 32 - 24) 2 r) in
+            long-shaped 9 (u64At s 1) 0x1_0000_0000 (omega arith) (λ h. absurd (omega arith)) (λ h. absurd (omega arith)) (λ h. absurd (omega arith)) (λ h. (refl, refl, refl))
 
   first-shaped : Shaped b s (headAfter (firstOf b) s)
   unfolding headAfter firstOf majorOf argumentOf simpleOf
   first-shaped = go (ltb (b / 32) 6) (ltb (b / 32) 7) refl
     where
-      arguments : b / 32 < 6 → (x y : Bool) → ltb (b % 32) 24 ≡ x → Shaped b s (headAfter (if x then Argument (kindOf (b / 32)) (b % 32) else if y then Form (kindOf (b / 32)) (b % 32 - 24) else Refused) s)
-      arguments h true y p = small-shaped (kindOf (b / 32)) (λ _. refl) (λ w. absurd (omega arith)) (ltb-true _ _ p)
-      arguments h false true p = form-shaped h (ltb-false _ _ p)
-      arguments h false false p = tt
+      arguments : b / 32 < 6 → (x y : Bool) → ltb (b % 32) 24 ≡ x → ltb (b % 32) 28 ≡ y → Shaped b s (headAfter (if x then Argument (kindOf (b / 32)) (b % 32) else if y then Form (kindOf (b / 32)) (b % 32 - 24) else Refused) s)
+      arguments h true y p q = small-shaped (kindOf (b / 32)) (λ _. refl) (λ w. absurd (omega arith)) (ltb-true _ _ p)
+      arguments h false true p q = form-shaped h (ltb-false _ _ p) (ltb-true _ _ q)
+      arguments h false false p q = tt
 
       simples : 6 ≤ b / 32 → (x y : Bool) → ltb (b % 32) 24 ≡ y → Shaped b s (headAfter (if x then Refused else if y then Argument Simple (b % 32) else Refused) s)
       simples h true y p = tt
@@ -111,7 +115,7 @@ module _ (b : ℕ) (s : List ℕ) (n : 0 < length s) where
       simples h false false p = tt
 
       go : (x y : Bool) → ltb (b / 32) 6 ≡ x → Shaped b s (headAfter (if x then argumentOf (kindOf (b / 32)) (b % 32) else if y then Refused else simpleOf (b % 32)) s)
-      go true y p = arguments (ltb-true _ _ p) (ltb (b % 32) 24) (ltb (b % 32) 28) refl
+      go true y p = arguments (ltb-true _ _ p) (ltb (b % 32) 24) (ltb (b % 32) 28) refl refl
       go false true p = tt
       go false false p = simples (ltb-false _ _ p) (ltb (b % 32) 20) (ltb (b % 32) 24) refl
 
@@ -125,6 +129,17 @@ head-shaped s = go (eqb (length s) 0) refl
 
 pub shape : (s : List ℕ) {k : Kind} {v l : ℕ} → headOf s ≡ Of k v l → Shape (getD s 0 0) s k v l
 shape s e = subst (λ (h : Head). Shaped (getD s 0 0) s h) e (head-shaped s)
+
+-- The forms of a head, by the additional information i of its first byte.
+pub by-form : {A : Type 0} (i : ℕ) → (i < 24 → A) → (i ≡ 24 → A) → (i ≡ 25 → A) → (i ≡ 26 → A) → (26 < i → A) → A
+by-form {A} i small one two four eight = go (ltb i 24) (eqb i 24) (eqb i 25) (eqb i 26) refl refl refl refl
+  where
+    go : (w x y z : Bool) → ltb i 24 ≡ w → eqb i 24 ≡ x → eqb i 25 ≡ y → eqb i 26 ≡ z → A
+    go true x y z e f g h = small (ltb-true i 24 e)
+    go false true y z e f g h = one (eqb-true i 24 f)
+    go false false true z e f g h = two (eqb-true i 25 g)
+    go false false false true e f g h = four (eqb-true i 26 h)
+    go false false false false e f g h = eight (omega (arith, ltb-false i 24 e, eqb-false i 24 f, eqb-false i 25 g, eqb-false i 26 h))
 
 -- The kinds of keys are the major types 0 to 3, so a first byte below 0x80 tells a key from the other items.
 key-kind : (m : ℕ) → m < 4 → isKey (kindOf m) ≡ true

@@ -6,5 +6,7 @@ pub mod Keys
 -- For the crate's own proofs.
 mod Firsts
 mod Orders
+mod Alone
+mod ByteOrder
 mod Numbers
 mod Readers

@@ -18,7 +18,11 @@ back n (Fault p) i h e =
     let place : faultBase + p - faultBase ≡ p = omega arith in
     rw (e, le-ltb (faultBase + p) faultBase (omega arith), place)
 
--- Below `faultBase` reading goes on at the number.
+-- Below `faultBase` the number is the length, and reading goes on there.
+pub is-length : (x : Item) {r : ℕ} → r ≡ asNumber x → r < faultBase → x ≡ Len r
+is-length (Len n) e h = ap Len (sym e)
+is-length (Fault p) e h = absurd (omega arith)
+
 pub goes-on : (x : Item) (g : ℕ → Item) {r : ℕ} → r ≡ asNumber x → r < faultBase → andThen x g ≡ g r
 unfolding andThen
 goes-on (Len n) g e h = ap g (sym e)

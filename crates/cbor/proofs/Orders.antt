@@ -1,31 +1,64 @@
--- The comparison of keys by their lengths, then byte by byte. Numbers of several bytes, high byte first, are in the order of their bytes, so the
--- first that differ decide.
+-- The comparison of numbers, and of bytes one by one. Numbers of several bytes, high byte first, are in the order of their bytes, so the first that differ decide.
 use Prim.Native.Nat.{ℕ, _+_, _*_, _≤_, _<_}
-use mathlib.Core.Path.{_≡_, refl, _∙_}
-use mathlib.Core.List.{List}
+use mathlib.Core.Path.{_≡_, refl, sym, _∙_}
+use mathlib.Core.List.{List, [], _∷_}
 use mathlib.Core.Bool.{Bool, true, false}
 use native.Mathlib.Omega.{arith}
 use native.Mathlib.Numerals.{add-one}
-use lib.ListN.{length, getD, drop, drop-of-length-le}
+use lib.ListN.{length, drop, drop-of-length-le}
 use lib.Seq.{drop-cons}
 use lib.Dec.{ltb}
 use borrow.Author.Tests.{lt-ltb, le-ltb, ltb-true, ltb-false}
-use Rattle.cbor.specs.Bytes.{u8At, u64At}
-use Rattle.cbor.specs.Order.{bytesBefore, keyBefore}
+use Rattle.cbor.specs.Bytes.{u8At, u16At, u32At, u64At, Octets}
+use Rattle.cbor.specs.Order.{lowerFirst, bytesBefore}
 
--- The three ways in which the lengths of two keys can stand.
-module _ (a b : List ℕ) where
-  pub shorter : length a < length b → keyBefore a b ≡ true
-  unfolding keyBefore
-  shorter h = rw (lt-ltb (length a) (length b) h)
+pub false-true : {A : Type 0} → false ≡ true → A
+false-true e = let z : _≡_ {A = ℕ} 0 1 = cc in absurd (omega arith)
 
-  pub longer-key : length b < length a → keyBefore a b ≡ false
-  unfolding keyBefore
-  longer-key h = rw (le-ltb (length a) (length b) (omega arith), lt-ltb (length b) (length a) h)
+-- The three ways in which two numbers can stand: what holds in each holds.
+pub by-number : {A : Type 0} (m n : ℕ) → (m < n → A) → (m ≡ n → A) → (n < m → A) → A
+by-number {A} m n f g h = go (ltb m n) (ltb n m) refl refl
+  where
+    go : (p q : Bool) → ltb m n ≡ p → ltb n m ≡ q → A
+    go true q i j = f (ltb-true m n i)
+    go false true i j = h (ltb-true n m j)
+    go false false i j = g (omega (arith, ltb-false m n i, ltb-false n m j))
 
-  pub equal-length : length a ≡ length b → keyBefore a b ≡ bytesBefore a b
-  unfolding keyBefore
-  equal-length h = rw (le-ltb (length a) (length b) (omega arith), le-ltb (length b) (length a) (omega arith))
+module _ (m n : ℕ) (t : Bool) where
+  pub lower : m < n → lowerFirst m n t ≡ true
+  lower h = rw (lt-ltb m n h)
+
+  pub higher : n < m → lowerFirst m n t ≡ false
+  higher h = rw (le-ltb m n (omega arith), lt-ltb n m h)
+
+  pub level : m ≡ n → lowerFirst m n t ≡ t
+  level h = rw (le-ltb m n (omega arith), le-ltb n m (omega arith))
+
+  -- Where m comes first it is lower, or equal and t decides so.
+  pub comes-first : {A : Type 0} → lowerFirst m n t ≡ true → (m < n → A) → (m ≡ n → t ≡ true → A) → A
+  comes-first e f g = by-number m n f (λ h. g h (rw (level h) at e)) (λ h. false-true (rw (higher h) at e))
+
+-- What is transitive goes on being so behind a number that is compared before it.
+pub behind : (x y z : ℕ) {s t u : Bool} → (s ≡ true → t ≡ true → u ≡ true) → lowerFirst x y s ≡ true → lowerFirst y z t ≡ true → lowerFirst x z u ≡ true
+behind x y z next e f =
+    comes-first x y _ e
+    (λ i. comes-first y z _ f (λ j. lower x z _ (omega arith)) (λ j g. lower x z _ (omega arith)))
+    (λ i g. comes-first y z _ f (λ j. lower x z _ (omega arith)) (λ j h. level x z _ (i ∙ j) ∙ next g h))
+
+pub bytes-transitive : (a b c : List ℕ) → bytesBefore a b ≡ true → bytesBefore b c ≡ true → bytesBefore a c ≡ true
+unfolding bytesBefore
+bytes-transitive a [] [] e f = false-true f
+bytes-transitive a (y ∷ b) [] e f = false-true f
+bytes-transitive [] b (z ∷ c) e f = refl
+bytes-transitive (x ∷ a) [] (z ∷ c) e f = false-true e
+bytes-transitive (x ∷ a) (y ∷ b) (z ∷ c) e f = behind x y z (bytes-transitive a b c) e f
+
+pub bytes-asymmetric : (a b : List ℕ) → bytesBefore a b ≡ true → bytesBefore b a ≡ false
+unfolding bytesBefore
+bytes-asymmetric [] [] e = refl
+bytes-asymmetric [] (y ∷ b) e = refl
+bytes-asymmetric (x ∷ a) [] e = false-true e
+bytes-asymmetric (x ∷ a) (y ∷ b) e = comes-first x y _ e (λ h. higher y x _ h) (λ h g. level y x _ (sym h) ∙ bytes-asymmetric a b g)
 
 -- A number N that is read in w bytes decides the order, and equal ones leave it to what follows.
 pub record Decides (a b : List ℕ) (N : List ℕ → ℕ → ℕ) (w : ℕ) : Type 0 where
@@ -41,14 +74,35 @@ one a b = record {
   same = λ i ha hb e. rw (add-one i, drop-cons a i 0 (omega arith), drop-cons b i 0 (omega arith), le-ltb (u8At a i) (u8At b i) (omega arith), le-ltb (u8At b i) (u8At a i) (omega arith));
 }
 
-pub ended : (a b : List ℕ) (i : ℕ) → length a ≤ i → bytesBefore (drop i a) (drop i b) ≡ false
+nothing-after : (a : List ℕ) → bytesBefore a [] ≡ false
 unfolding bytesBefore
-ended a b i h = rw (drop-of-length-le a h)
+nothing-after [] = refl
+nothing-after (x ∷ a) = refl
 
-abbrev pub Bytes : List ℕ → Type 0
-Bytes s = (i : ℕ) → getD s i 0 < 0x100
+-- What is left from i on decides x.
+pub record Left (a b : List ℕ) (i : ℕ) (x : Bool) : Type 0 where
+  pub rest : x ≡ bytesBefore (drop i a) (drop i b)
 
-module _ (a b : List ℕ) (ba : Bytes a) (bb : Bytes b) where
+-- It is decided where one of the two ends, and where the numbers that are read there differ.
+module _ {a b : List ℕ} {i : ℕ} {x : Bool} (e : Left a b i x) where
+  pub first-ends : length a ≤ i → i < length b → true ≡ x
+  unfolding bytesBefore
+  first-ends h l = sym (e .rest ∙ rw (drop-of-length-le a h, drop-cons b i 0 l))
+
+  pub second-ends : length b ≤ i → false ≡ x
+  second-ends h = sym (e .rest ∙ rw (drop-of-length-le b h) (nothing-after (drop i a)))
+
+  module _ {N : List ℕ → ℕ → ℕ} {w : ℕ} (d : Decides a b N w) (ha : i + w ≤ length a) (hb : i + w ≤ length b) where
+    pub number-less : N a i < N b i → true ≡ x
+    number-less l = sym (e .rest ∙ d .less i ha hb l)
+
+    pub number-more : N b i < N a i → false ≡ x
+    number-more l = sym (e .rest ∙ d .more i ha hb l)
+
+    pub number-same : N a i ≡ N b i → Left a b (i + w) x
+    number-same l = record { rest = e .rest ∙ d .same i ha hb l }
+
+module _ (a b : List ℕ) (ba : Octets a) (bb : Octets b) where
   -- one byte more at the low end
   longer : (N : List ℕ → ℕ → ℕ) (w : ℕ) → Decides a b N w → Decides a b (λ s i. N s i * 0x100 + u8At s (i + w)) (w + 1)
   longer N w d = record {
@@ -78,5 +132,11 @@ module _ (a b : List ℕ) (ba : Bytes a) (bb : Bytes b) where
           let g : N a i ≤ N b i = ltb-false (N b i) (N a i) e in
           d .same i (omega arith) (omega arith) (omega (arith, ba (i + w), bb (i + w))) ∙ one a b .more (i + w) (omega arith) (omega arith) (omega (arith, ba (i + w), bb (i + w)))
 
+  pub two : Decides a b u16At 2
+  two = longer _ 1 (one a b)
+
+  pub four : Decides a b u32At 4
+  four = longer _ 3 (longer _ 2 two)
+
   pub eight : Decides a b u64At 8
-  eight = longer _ 7 (longer _ 6 (longer _ 5 (longer _ 4 (longer _ 3 (longer _ 2 (longer _ 1 (one a b)))))))
+  eight = longer _ 7 (longer _ 6 (longer _ 5 (longer _ 4 four)))

@@ -1,7 +1,11 @@
--- How the crate's own functions answer each other. No rule and no public call rests on it.
+-- What the crate's own functions ask of each other, and how they answer. No rule and no public call rests on it.
 use Prim.Native.Nat.{ℕ, _+_, _-_}
+use mathlib.Core.Path.{_≡_}
+use mathlib.Core.Logic.{_⊎_}
+use mathlib.Core.List.{List, []}
 use lib.Dec.{ltb}
 use Rattle.cbor.specs.Choice.{if_then_else_}
+use Rattle.cbor.specs.Item.{Key}
 use Rattle.cbor.specs.declared.head.Kind.{Kind}
 use Rattle.cbor.specs.declared.head.Kind.the-variants.{Unsigned, Negative, Bytes, Text, Array, Map, Simple}
 use Rattle.cbor.specs.declared.head.First.{First}
@@ -36,3 +40,7 @@ abbrev pub shortLengthOf : First → ℕ
 shortLengthOf (Argument k i) = shortLengthBy k i
 shortLengthOf (Form k f) = 0
 shortLengthOf Refused = 0
+
+-- The key before, and before the first no bytes.
+abbrev pub KeyOrNone : List ℕ → Type 0
+KeyOrNone a = (a ≡ []) ⊎ Key a

@@ -1,6 +1,7 @@
 -- A canonical item at the start of a list of bytes: how many bytes it takes, or the place of the first fault, counted from the item's first
 -- byte. In the names below k, v and l are the kind, the argument and the length of the item's head.
 use Prim.Native.Nat.{ℕ, zero, suc, _+_, _-_}
+use mathlib.Core.Path.{_≡_}
 use mathlib.Core.List.{List, []}
 use mathlib.Core.Bool.{Bool, true, false}
 use lib.ListN.{length, take, drop}
@@ -68,6 +69,10 @@ byHead g Bad s = Fault 0
 -- A map's key.
 unfoldable pub keyOf : List ℕ → Item
 keyOf s = byHead keyOfKind (headOf s) s
+
+-- These bytes are a key, with nothing after it.
+abbrev pub Key : List ℕ → Type 0
+Key a = keyOf a ≡ Len (length a)
 
 -- The key at `at`, which must come strictly after the key `prev`: else the fault is at the later key. Its value begins where it ends.
 unfoldable pub nextKeyOf : List ℕ → List ℕ → ℕ → Item

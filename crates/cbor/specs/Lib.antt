@@ -1,7 +1,9 @@
--- The rules are `Bytes`, `Head`, `Order` and `Item`, in the order of document 01. `Answer` is how the crate's own functions hand them on.
+-- The rules are `Bytes`, `Head`, `Order` and `Item`, in the order of document 01. `Theorems` says what is proved
+-- of them, and `Answer` is how the crate's own functions hand them on.
 pub mod Choice
 pub mod Bytes
 pub mod Head
 pub mod Order
 pub mod Item
+pub mod Theorems
 pub mod Answer

@@ -1,18 +1,26 @@
--- The order of a map's encoded keys.
-use Prim.Native.Nat.{ℕ}
+-- The order of a map's encoded keys: that of X.1278.
+use Prim.Native.Nat.{ℕ, _/_}
 use mathlib.Core.List.{List, [], _∷_}
 use mathlib.Core.Bool.{Bool, true, false}
-use lib.ListN.{length}
+use lib.ListN.{length, getD}
 use lib.Dec.{ltb}
 use Rattle.cbor.specs.Choice.{if_then_else_}
 
--- Byte by byte, where the lists are of one length.
-unfoldable pub bytesBefore : List ℕ → List ℕ → Bool
-bytesBefore [] b = false
-bytesBefore (x ∷ a) [] = false
-bytesBefore (x ∷ a) (y ∷ b) = if ltb x y then true else if ltb y x then false else bytesBefore a b
+-- The lower number comes first; between equal ones t decides.
+abbrev pub lowerFirst : ℕ → ℕ → Bool → Bool
+lowerFirst m n t = if ltb m n then true else if ltb n m then false else t
 
--- The shorter encoded key first, equal lengths byte by byte (RFC 7049, section 3.9).
+-- Byte by byte; one that ends comes before one that goes on.
+unfoldable pub bytesBefore : List ℕ → List ℕ → Bool
+bytesBefore [] [] = false
+bytesBefore [] (y ∷ b) = true
+bytesBefore (x ∷ a) [] = false
+bytesBefore (x ∷ a) (y ∷ b) = lowerFirst x y (bytesBefore a b)
+
+-- The major type is the high three bits of the first byte.
+abbrev pub majorType : List ℕ → ℕ
+majorType a = getD a 0 0 / 32
+
+-- The lower major type first, then the shorter, then byte by byte.
 unfoldable pub keyBefore : List ℕ → List ℕ → Bool
-keyBefore a b =
-    if ltb (length a) (length b) then true else if ltb (length b) (length a) then false else bytesBefore a b
+keyBefore a b = lowerFirst (majorType a) (majorType b) (lowerFirst (length a) (length b) (bytesBefore a b))

@@ -9,8 +9,6 @@ mod head;
 mod order;
 mod reader;
 
-pub use order::key_before;
-
 // What reading an item finds: how many bytes it takes, or the place of the first fault, counted from the item's first byte.
 pub enum Item {
     Len(usize),

@@ -1,30 +1,28 @@
-// The order of a map's encoded keys.
+// The order of a map's encoded keys. Between keys it is that of their bytes, and comparing these is the cheaper way: the first byte mostly decides,
+// and neither major types nor lengths are compared on their own.
 ghost use mathlib.Core.Path.{_≡_};
 ghost use Prim.Native.Nat.{_≤_};
 ghost use lib.ListN.{length, drop};
 ghost use Rattle.cbor.specs.Order.{bytesBefore, keyBefore};
+ghost use Rattle.cbor.specs.Item.{Key};
+ghost use Rattle.cbor.specs.Answer.{KeyOrNone};
 use crate::bytes;
 
-// Whether the encoded key a comes strictly before the encoded key b.
-pub fn key_before(a: &[u8], b: &[u8]) -> bool
+// Whether the encoded key a, or no key before the first, comes strictly before the encoded key b.
+pub(crate) fn key_before(a: &[u8], b: &[u8]) -> bool
+    requires { ⌜ KeyOrNone (now a) × Key (now b) ⌝ }
     ensures { λ r. ⌜ r ≡ keyBefore (now (a .entry)) (now (b .entry)) ⌝ }
 {
-    if a.len() < b.len() {
-        return true;
-    }
-    if b.len() < a.len() {
-        return false;
-    }
     bytes_before(a, b)
 }
 
-// Keys of one length, eight bytes at a time: as numbers they are in the order of the bytes.
+// Eight bytes at a time while both have as many: as numbers they are in the order of the bytes.
 fn bytes_before(a: &[u8], b: &[u8]) -> bool
-    requires { ⌜ length (now a) ≡ length (now b) ⌝ }
     ensures { λ r. ⌜ r ≡ bytesBefore (now (a .entry)) (now (b .entry)) ⌝ }
 {
+    let both = if a.len() < b.len() { a.len() } else { b.len() };
     let mut i = 0;
-    while 8 <= a.len() - i {
+    while 8 <= both - i {
         let x = bytes::u64_at(a, i);
         let y = bytes::u64_at(b, i);
         if x < y {
@@ -40,15 +38,20 @@ fn bytes_before(a: &[u8], b: &[u8]) -> bool
 
 // The bytes from start on, one by one.
 fn rest_before(a: &[u8], b: &[u8], start: usize) -> bool
-    requires { ⌜ (length (now a) ≡ length (now b)) × (start ≤ length (now a)) ⌝ }
+    requires { ⌜ (start ≤ length (now a)) × (start ≤ length (now b)) ⌝ }
     ensures { λ r. ⌜ r ≡ bytesBefore (drop start (now (a .entry))) (drop start (now (b .entry))) ⌝ }
 {
     let mut i = start;
-    while i < a.len() {
-        if a[i] < b[i] {
+    while i < b.len() {
+        if i == a.len() {
             return true;
         }
-        if b[i] < a[i] {
+        let x = a[i];
+        let y = b[i];
+        if x < y {
+            return true;
+        }
+        if y < x {
             return false;
         }
         i += 1;

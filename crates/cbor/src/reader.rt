@@ -6,7 +6,7 @@ ghost use Prim.Native.Nat.{_≤_};
 ghost use mathlib.Core.List.{[]};
 ghost use lib.ListN.{length};
 ghost use Rattle.cbor.specs.Item.{part, stringOf, keyOf, nextKeyOf, elementsOf, entriesOf, itemOf};
-ghost use Rattle.cbor.specs.Answer.{asNumber};
+ghost use Rattle.cbor.specs.Answer.{asNumber, KeyOrNone};
 use crate::head;
 use crate::head::Head;
 use crate::head::Kind;
@@ -128,7 +128,7 @@ fn entries(msg: &[u8], levels: u8, count: u64, start: usize) -> usize
 
 // The key at `at`, which must come after the one that stands from prev up to stop; it ends where its value begins.
 fn next_key(msg: &[u8], prev: usize, stop: usize, at: usize) -> usize
-    requires { ⌜ (prev ≤ stop) × (stop ≤ length (now msg)) × (at ≤ length (now msg)) ⌝ }
+    requires { ⌜ (prev ≤ stop) × (stop ≤ length (now msg)) × (at ≤ length (now msg)) × KeyOrNone (part (now msg) prev stop) ⌝ }
     ensures { λ r. ⌜ r ≡ asNumber (nextKeyOf (now (msg .entry)) (part (now (msg .entry)) prev stop) at) ⌝ }
 {
     let end = at + key_extent(&msg[at..]);

@@ -1,21 +1,20 @@
 -- -7 and a length of 32 have one head each, so the bytes tell them: 26, and 58 20.
 use Prim.Native.Nat.{ℕ, _+_, _/_, _%_, _≤_, _<_}
-use mathlib.Core.Path.{_≡_, refl, sym, ap, subst, _∙_}
+use mathlib.Core.Path.{_≡_, refl, sym, ap, _∙_}
 use mathlib.Core.List.{List}
 use mathlib.Core.Bool.{Bool, true, false}
 use native.Mathlib.Omega.{arith}
 use lib.ListN.{length, getD, drop, List·getD-eq-default}
 use lib.Seq.{getD-drop}
-use lib.Dec.{eqb, ltb, leb}
-use borrow.Author.Tests.{eqb-true, eqb-false, ne-eqb, le-leb, leb-true, ltb-true, ltb-false}
+use lib.Dec.{eqb, ltb}
+use borrow.Author.Tests.{eqb-true, eqb-false, ne-eqb, le-leb, ltb-true, ltb-false}
 use Rattle.cbor.specs.Choice.{if_then_else_}
 use Rattle.cbor.specs.Bytes.{u8At}
-use Rattle.cbor.specs.Head.{kindOf, argumentOf, simpleOf, majorOf, firstOf, shortestOf, longHead, headInForm, headAfter, headOf}
+use Rattle.cbor.specs.Head.{argumentOf, majorOf, firstOf, shortestOf, longHead, headInForm, headAfter, headOf}
 use Rattle.cbor.specs.declared.head.Kind.{Kind}
-use Rattle.cbor.specs.declared.head.First.the-variants.{Form, Refused}
 use Rattle.cbor.specs.declared.head.Head.{Head}
 use Rattle.cbor.specs.declared.head.Head.the-variants.{Of, Bad}
-use Rattle.cbor.proofs.Heads.{Shape, shape}
+use Rattle.cbor.proofs.Heads.{Shape, shape, by-form}
 use Rattle.command.specs.Map.{majorAt, argumentIn, argumentAt}
 use Rattle.command.specs.Algorithms.{minusSeven}
 use Rattle.command.proofs.Runs.{byte-at}
@@ -28,58 +27,25 @@ some s i h = go (ltb i (length s)) refl
     go true e = ltb-true _ _ e
     go false e = absurd (omega (arith, List·getD-eq-default s 0 (ltb-false i (length s) e)))
 
--- An argument in the byte after the first is 24 at least.
-abbrev Least : Head → Type 0
-Least (Of k v l) = 24 ≤ v
-Least Bad = Unit {0}
-
-least : (s : List ℕ) (m i : ℕ) → i ≡ 24 → Least (headAfter (majorOf m i) s)
-unfolding headAfter majorOf argumentOf simpleOf headInForm longHead shortestOf
-least s m i e = rw e (go (ltb m 6) (ltb m 7))
-  where
-    in-form : (z t : Bool) → leb 24 (u8At s 1) ≡ t → Least (if z then (if t then Of (kindOf m) (u8At s 1) 2 else Bad) else Bad)
-    in-form true true p = leb-true _ _ p
-    in-form true false p = tt
-    in-form false t p = tt
-
-    go : (x y : Bool) → Least (headAfter (if x then Form (kindOf m) 0 else if y then Refused else Refused) s)
-    go true y = in-form (leb 2 (length s)) (leb 24 (u8At s 1)) refl
-    go false true = tt
-    go false false = tt
-
 -- An argument below 24 stands in the first byte, one below 256 in the byte after it.
 module _ (b : ℕ) (s : List ℕ) (k : Kind) (v l : ℕ) (w : Shape b s k v l) where
-  long : 24 ≤ b % 32 → v < 256 → b % 32 ≡ 24
-  long h g = go (eqb (b % 32) 24) (eqb (b % 32) 25) (eqb (b % 32) 26) refl refl refl
-    where
-      go : (x y z : Bool) → eqb (b % 32) 24 ≡ x → eqb (b % 32) 25 ≡ y → eqb (b % 32) 26 ≡ z → b % 32 ≡ 24
-      go true y z p q r = eqb-true (b % 32) 24 p
-      go false true z p q r = absurd (omega (arith, w .two (eqb-true (b % 32) 25 q) .1))
-      go false false true p q r = absurd (omega (arith, w .four (eqb-true (b % 32) 26 r) .1))
-      go false false false p q r =
-          absurd (omega (arith, w .eight (omega (arith, eqb-false (b % 32) 24 p, eqb-false (b % 32) 25 q, eqb-false (b % 32) 26 r)) .1))
-
-  in-first : (b % 32 ≡ 24 → 24 ≤ v) → v < 24 → b % 32 ≡ v
-  in-first o h = go (ltb (b % 32) 24) refl
-    where
-      go : (x : Bool) → ltb (b % 32) 24 ≡ x → b % 32 ≡ v
-      go true e = sym (w .small (ltb-true _ _ e) .1)
-      go false e = absurd (omega (arith, o (long (ltb-false _ _ e) (omega arith))))
+  in-first : v < 24 → b % 32 ≡ v
+  in-first h =
+      by-form (b % 32)
+      (λ i. sym (w .small i .1))
+      (λ i. absurd (omega (arith, w .one i .2)))
+      (λ i. absurd (omega (arith, w .two i .2)))
+      (λ i. absurd (omega (arith, w .four i .2)))
+      (λ i. absurd (omega (arith, w .eight i .2)))
 
   pub in-second : 24 ≤ v → v < 256 → (b % 32 ≡ 24) × (v ≡ u8At s 1)
-  in-second g h = go (ltb (b % 32) 24) refl
-    where
-      go : (x : Bool) → ltb (b % 32) 24 ≡ x → (b % 32 ≡ 24) × (v ≡ u8At s 1)
-      go true e = absurd (omega (arith, ltb-true (b % 32) 24 e, w .small (ltb-true _ _ e) .1))
-      go false e = let i = long (ltb-false _ _ e) h in (i, w .one i .1)
-
-after-first : (s : List ℕ) {k : Kind} {v l : ℕ} → headOf s ≡ Of k v l → getD s 0 0 % 32 ≡ 24 → 24 ≤ v
-unfolding headOf firstOf
-after-first s e i = subst (λ (h : Head). Least h) e (go (eqb (length s) 0))
-  where
-    go : (t : Bool) → Least (if t then Bad else headAfter (majorOf (getD s 0 0 / 32) (getD s 0 0 % 32)) s)
-    go true = tt
-    go false = least s (getD s 0 0 / 32) (getD s 0 0 % 32) i
+  in-second g h =
+      by-form (b % 32)
+      (λ i. absurd (omega (arith, w .small i .1)))
+      (λ i. (i, w .one i .1))
+      (λ i. absurd (omega (arith, w .two i .2)))
+      (λ i. absurd (omega (arith, w .four i .2)))
+      (λ i. absurd (omega (arith, w .eight i .2)))
 
 -- "alg" at a place is -7 just where the byte there is 26.
 seven-here : (s : List ℕ) → getD s 0 0 ≡ 0x26 → argumentIn (headOf s) ≡ 6
@@ -91,7 +57,7 @@ unfolding argumentIn
 seven-not s m h = go (headOf s) refl
   where
     go : (x : Head) → headOf s ≡ x → eqb (argumentIn x) 6 ≡ false
-    go (Of k v l) g = ne-eqb v 6 (λ i. h (omega (arith, in-first (getD s 0 0) s k v l (shape s g) (after-first s g) (omega arith))))
+    go (Of k v l) g = ne-eqb v 6 (λ i. h (omega (arith, in-first (getD s 0 0) s k v l (shape s g) (omega arith))))
     go Bad g = refl
 
 pub seven-at : (s : List ℕ) (at : ℕ) → eqb (getD s at 0) 0x26 ≡ minusSeven s at

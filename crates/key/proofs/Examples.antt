@@ -21,4 +21,4 @@ unfolding overwrite packetsNeeded begins room carries cut put packets bytes4 byt
     firstOf majorOf argumentOf simpleOf shortestOf longHead headInForm headAfter headOf bytesBefore keyBefore andThen countedFrom readAt stringOf byHead keyOfKind keyOf nextKeyOf elementsOf entriesOf itemOf
     argumentIn after placesAt entriesAt counted arrayAt mapAt sameBytes valueOf onFound inTurn parameterOf throughOf requiredOf absentOf shownOf goodOf settledOf oneMap parametersOf checkCommand checkOf
     _⇒_else_ all known starts toCore messageInOrder phaseInOrder inOrder ifHolder standingOf badLength openingRows carriedOut opening packetRows lent rows step
-examples = (refl, refl, refl, refl, refl, refl, refl, refl, refl, refl, refl, refl, refl)
+examples = (refl, refl, refl, refl, refl, refl, refl, refl, refl, refl, refl, refl, refl, refl)

@@ -1,4 +1,4 @@
--- Document 01, "Examples on the bench": the rows marked P, as one table.
+-- Document 01, "Examples on the bench": the rows marked P, as one table, with the two on the order of keys as request 2026-03 has them.
 use Prim.Native.Nat.{ℕ}
 use mathlib.Core.Path.{_≡_}
 use mathlib.Core.Option.{Option, some}
@@ -51,7 +51,8 @@ P =
     × (statusAlone (0x81 ∷ 0x81 ∷ 0x81 ∷ 0x81 ∷ 0x80 ∷ []) ≡ 0x12)
     × (statusAlone (0xa1 ∷ 0x18 ∷ 0x01 ∷ 0x00 ∷ []) ≡ 0x12)
     × (statusAlone (0xa2 ∷ 0x00 ∷ 0x00 ∷ 0x00 ∷ 0x00 ∷ []) ≡ 0x12)
-    × (statusAlone (0xa2 ∷ 0x60 ∷ 0x00 ∷ 0x18 ∷ 0x18 ∷ 0x00 ∷ []) ≡ 0)
+    × (statusAlone (0xa2 ∷ 0x60 ∷ 0x00 ∷ 0x18 ∷ 0x18 ∷ 0x00 ∷ []) ≡ 0x12)
+    × (statusAlone (0xa2 ∷ 0x18 ∷ 0x18 ∷ 0x00 ∷ 0x60 ∷ 0x00 ∷ []) ≡ 0)
     × (statusOfCommand (0x04 ∷ []) ≡ 0)
     × (statusOfCommand (0x04 ∷ 0xa0 ∷ []) ≡ 0x03)
     × (statusOfCommand (0x01 ∷ 0xa0 ∷ []) ≡ 0x14)

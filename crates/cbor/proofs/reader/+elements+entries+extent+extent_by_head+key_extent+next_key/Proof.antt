@@ -2,6 +2,7 @@
 -- `Readers` say what one step makes of that. The measure falls with the levels left; among functions at one level it goes down the list of calls.
 use Prim.Native.Nat.{ℕ, _<_, _≤_, _+_, _*_}
 use mathlib.Core.Path.{_≡_, sym, ap, _∙_}
+use mathlib.Core.Logic.{inl, inr}
 use mathlib.Core.List.{List, []}
 use native.Mathlib.Omega.{arith}
 use native.Mathlib.Nat.{pos-of-ne-zero}
@@ -10,10 +11,10 @@ use borrow.Author.Needs.{needs}
 use borrow.Fn.Kinds.{In}
 use borrow.Fn.PlainCycle.{Measures, is, falls, and}
 use Rattle.cbor.specs.Item.{part, keyOf, elementsOf, entriesOf, itemOf}
-use Rattle.cbor.specs.Answer.{asNumber}
+use Rattle.cbor.specs.Answer.{asNumber, KeyOrNone}
 use Rattle.cbor.proofs.Items.{item-within, key-within, key-none, key-high, key-low}
 use Rattle.cbor.proofs.Numbers.{here, here-within, room}
-use Rattle.cbor.proofs.Readers.{bad, starts-within, plain, no-level, level, item-none, short-whole, short-cut, next-stop, next-good, next-late, elements-done, elements-step, elements-stop, entries-done, entries-step, entries-stop-key, entries-stop-value, value-within, no-part}
+use Rattle.cbor.proofs.Readers.{bad, starts-within, plain, no-level, level, item-none, short-whole, short-cut, next-stop, read-is-key, next-is-key, next-good, next-late, elements-done, elements-step, elements-stop, entries-done, entries-step, entries-stop-key, entries-stop-value, value-within, no-part}
 use Rattle.cbor.proofs.reader.elements.Reads as elements
 use Rattle.cbor.proofs.reader.elements.Kinds as elements-kinds
 use Rattle.cbor.proofs.reader.+elements+entries+extent+extent_by_head+key_extent+next_key.Lts-elements as elements-lts
@@ -65,9 +66,9 @@ elements-Inv-loop msg levels count start at₀ items-left₀ at items-left = (at
 abbrev elements-μ-loop : elements-lts.MeasureT-loop
 elements-μ-loop msg levels count start at₀ items-left₀ at items-left = items-left
 
--- The rest of the entries is the whole, after the key that stands from `prev` up to `stop`.
+-- The rest of the entries is the whole, after the key that stands from `prev` up to `stop`, if there is one.
 abbrev entries-Inv-loop : entries-lts.InvT-loop
-entries-Inv-loop msg levels count start prev₀ stop₀ at₀ entries-left₀ prev stop at entries-left = (prev ≤ stop) × (stop ≤ length msg) × (at ≤ length msg) × (entriesOf (itemOf levels) count msg [] start ≡ entriesOf (itemOf levels) entries-left msg (part msg prev stop) at)
+entries-Inv-loop msg levels count start prev₀ stop₀ at₀ entries-left₀ prev stop at entries-left = (prev ≤ stop) × (stop ≤ length msg) × (at ≤ length msg) × (entriesOf (itemOf levels) count msg [] start ≡ entriesOf (itemOf levels) entries-left msg (part msg prev stop) at) × KeyOrNone (part msg prev stop)
 
 abbrev entries-μ-loop : entries-lts.MeasureT-loop
 entries-μ-loop msg levels count start prev₀ stop₀ at₀ entries-left₀ prev stop at entries-left = entries-left
@@ -146,7 +147,10 @@ module _ (t : ℕ) where
 
   entries-loop-holds : entries-lts.Need-loop-holds entries-calls entries-at entries.Post entries-Inv-loop entries-μ-loop
   entries-loop-holds c = let a = c .before .args in
-      (omega arith, omega arith, omega arith, ap (λ (x : List ℕ). entriesOf (itemOf (a .levels)) (a .count) (a .msg .now) x (a .start)) (sym (no-part (a .msg .now) (a .start))))
+      (omega arith, omega arith, omega arith, ap (λ (x : List ℕ). entriesOf (itemOf (a .levels)) (a .count) (a .msg .now) x (a .start)) (sym (no-part (a .msg .now) (a .start))), inl (no-part (a .msg .now) (a .start)))
+
+  entries-next-key-requires : entries-lts.Need-next-key-requires entries-calls entries-at entries.Post entries-Inv-loop entries-μ-loop
+  entries-next-key-requires c κs = (omega arith, (omega arith, omega arith, omega arith, c .before .loop .inv .4))
 
   entries-returns : entries-lts.Need-returns entries-calls entries-at entries.Post entries-Inv-loop entries-μ-loop
   entries-returns c = entries-stop-key _ _ _ _ (c .before .next-key .ensures) (omega arith) (omega arith) (c .before .before .before .loop .entries-left) (omega arith) (c .if1 .taken)
@@ -173,6 +177,7 @@ module _ (t : ℕ) where
     w .1,
     here-within (itemOf _) (c .before .before .before .before .before .before .before .before .args .msg .now) (c .before .before .before .before .next-key .result) (c .before .extent .ensures) (item-within _) (w .1) (c .if2 .left),
     c .before .before .before .before .before .before .loop .inv .3 ∙ entries-step _ _ _ _ (c .before .before .before .before .next-key .ensures) (c .before .before .before .if1 .left) (here (itemOf _) _ _ (c .before .extent .ensures)) (c .before .before .before .before .before .before .loop .entries-left) (omega arith) (c .if2 .left),
+    inr (next-is-key _ _ _ (c .before .before .before .before .next-key .ensures) (c .before .before .before .if1 .left)),
   )
 
   entries-returns-3 : entries-lts.Need-returns-3 entries-calls entries-at entries.Post entries-Inv-loop entries-μ-loop
@@ -250,6 +255,9 @@ module _ (t : ℕ) where
   next-key-part-key-before-end-2 : next-key-lts.Need-part-key-before-end-2 next-key-calls next-key-at next-key.Post
   next-key-part-key-before-end-2 c = here-within keyOf (c .before .before .before .before .before .args .msg .now) (c .before .before .before .before .before .args .at) (c .before .before .key-extent .ensures) key-within (omega arith) (c .before .if1 .left)
 
+  next-key-key-before-requires : next-key-lts.Need-key-before-requires next-key-calls next-key-at next-key.Post
+  next-key-key-before-requires c κs = (c .before .before .before .before .before .before .pre .1 .3, read-is-key _ _ (here keyOf _ _ (c .before .before .before .key-extent .ensures)) (c .before .before .if1 .left))
+
   next-key-returns-2 : next-key-lts.Need-returns-2 next-key-calls next-key-at next-key.Post
   next-key-returns-2 c = sym (ap asNumber (next-good _ _ _ (here keyOf _ _ (c .before .before .before .before .before .key-extent .ensures)) (c .before .before .before .before .if1 .left) (sym (c .before .key-before .ensures) ∙ c .if2 .taken)))
 
@@ -273,7 +281,7 @@ pub +elements+entries+extent+extent-by-head+key-extent+next-key-spec : {M : Type
     (elements-returns-2 t))
     (λ t. entries-lts.spec (entries-calls t) (entries-at t) entries.Post entries-Inv-loop entries-μ-loop
     (entries-loop-holds t)
-    (λ c κs. search needs)
+    (entries-next-key-requires t)
     (entries-returns t)
     (entries-sub-extent t)
     (entries-part-extent-start t)
@@ -339,7 +347,7 @@ pub +elements+entries+extent+extent-by-head+key-extent+next-key-spec : {M : Type
     (λ c. search needs)
     (λ c. search needs)
     (next-key-part-key-before-end-2 t)
-    (λ c κs. search needs)
+    (next-key-key-before-requires t)
     (λ c. search needs)
     (next-key-returns-2 t)
     (next-key-returns-3 t))
