@@ -199,7 +199,7 @@ mod tests {
     #[test]
     fn examples_of_document_01() {
         assert_eq!(
-            answers("item 4 81818180\nitem 4 8181818180\nitem 4 a26000181800\n"),
+            answers("item 4 81818180\nitem 4 8181818180\nitem 4 a21818006000\n"),
             "item 4\nstatus 12\nitem 6\n"
         );
         assert_eq!(

@@ -1,4 +1,5 @@
-//! The canonical form of CBOR items (document 01, "CBOR commands"; RFC 7049).
+//! The canonical form of CBOR items (document 01, "CBOR commands"; RFC 7049; X.1278 for
+//! the order of keys).
 //!
 //! A [`Reader`] goes over the bytes once, from left to right. What a caller wants to know of an
 //! item it learns while the item is read: [`Reader::array`] and [`Reader::map`] hand each entry

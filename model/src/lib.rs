@@ -1,4 +1,4 @@
-//! The touch key's protocol in ordinary Rust, written from document 01 alone, and the tests that
+//! The touch key's protocol in ordinary Rust, written from the documents alone, and the tests that
 //! hold the proved program to it.
 //!
 //! The model is a second reading of the same rules: [`packet`] (framing), [`cbor`] (canonical

@@ -183,9 +183,16 @@ fn every_order_of_two_keys() {
     ];
     let mut keys: Vec<Tree> = numbers.map(Tree::unsigned).to_vec();
     keys.extend(numbers.map(minus));
-    for content in ["", "a", "b", "aa", "ab", "a longer key than twenty-four"] {
-        keys.push(Tree::text(content));
-        keys.push(Tree::bytes(content.as_bytes().to_vec()));
+    let mut contents = ["", "a", "b", "aa", "ab", "a longer key than twenty-four"]
+        .map(String::from)
+        .to_vec();
+    // lengths on both sides of a longer form, where the shorter key has the higher bytes
+    for (letter, length) in [("z", 23), ("a", 24), ("z", 255), ("a", 256), ("b", 256)] {
+        contents.push(letter.repeat(length));
+    }
+    for content in contents {
+        keys.push(Tree::text(&content));
+        keys.push(Tree::bytes(content.into_bytes()));
     }
     keys.extend([0x80, 0xA0, 0xF4, 0xF7].map(|byte| Tree::Raw(vec![byte])));
     let mut lines = Vec::new();
