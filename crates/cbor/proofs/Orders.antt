@@ -1,4 +1,5 @@
--- The comparison of numbers, and of bytes one by one. Numbers of several bytes, high byte first, are in the order of their bytes, so the first that differ decide.
+-- The comparison of numbers, and of bytes one by one. Numbers of several bytes, high byte first, are in the order of their bytes, so the first
+-- that differ decide.
 use Prim.Native.Nat.{ℕ, _+_, _*_, _≤_, _<_}
 use mathlib.Core.Path.{_≡_, refl, sym, _∙_}
 use mathlib.Core.List.{List, [], _∷_}
@@ -60,17 +61,15 @@ bytes-asymmetric [] (y ∷ b) e = refl
 bytes-asymmetric (x ∷ a) [] e = false-true e
 bytes-asymmetric (x ∷ a) (y ∷ b) e = comes-first x y _ e (λ h. higher y x _ h) (λ h g. level y x _ (sym h) ∙ bytes-asymmetric a b g)
 
--- A number N that is read in w bytes decides the order, and equal ones leave it to what follows.
+-- A number N that is read in w bytes decides the order: the one with the lower number comes first, and equal ones leave it to what follows.
 pub record Decides (a b : List ℕ) (N : List ℕ → ℕ → ℕ) (w : ℕ) : Type 0 where
   pub less : (i : ℕ) → i + w ≤ length a → i + w ≤ length b → N a i < N b i → bytesBefore (drop i a) (drop i b) ≡ true
-  pub more : (i : ℕ) → i + w ≤ length a → i + w ≤ length b → N b i < N a i → bytesBefore (drop i a) (drop i b) ≡ false
   pub same : (i : ℕ) → i + w ≤ length a → i + w ≤ length b → N a i ≡ N b i → bytesBefore (drop i a) (drop i b) ≡ bytesBefore (drop (i + w) a) (drop (i + w) b)
 
 pub one : (a b : List ℕ) → Decides a b u8At 1
 unfolding bytesBefore
 one a b = record {
   less = λ i ha hb l. rw (drop-cons a i 0 (omega arith), drop-cons b i 0 (omega arith), lt-ltb _ _ l);
-  more = λ i ha hb l. rw (drop-cons a i 0 (omega arith), drop-cons b i 0 (omega arith), le-ltb (u8At a i) (u8At b i) (omega arith), lt-ltb _ _ l);
   same = λ i ha hb e. rw (add-one i, drop-cons a i 0 (omega arith), drop-cons b i 0 (omega arith), le-ltb (u8At a i) (u8At b i) (omega arith), le-ltb (u8At b i) (u8At a i) (omega arith));
 }
 
@@ -92,22 +91,21 @@ module _ {a b : List ℕ} {i : ℕ} {x : Bool} (e : Left a b i x) where
   pub second-ends : length b ≤ i → false ≡ x
   second-ends h = sym (e .rest ∙ rw (drop-of-length-le b h) (nothing-after (drop i a)))
 
-  module _ {N : List ℕ → ℕ → ℕ} {w : ℕ} (d : Decides a b N w) (ha : i + w ≤ length a) (hb : i + w ≤ length b) where
-    pub number-less : N a i < N b i → true ≡ x
-    number-less l = sym (e .rest ∙ d .less i ha hb l)
+  module _ {N : List ℕ → ℕ → ℕ} {w : ℕ} where
+    pub number-less : Decides a b N w → i + w ≤ length a → i + w ≤ length b → N a i < N b i → true ≡ x
+    number-less d ha hb l = sym (e .rest ∙ d .less i ha hb l)
 
-    pub number-more : N b i < N a i → false ≡ x
-    number-more l = sym (e .rest ∙ d .more i ha hb l)
+    pub number-more : Decides b a N w → i + w ≤ length a → i + w ≤ length b → N b i < N a i → false ≡ x
+    number-more d ha hb l = sym (e .rest ∙ bytes-asymmetric (drop i b) (drop i a) (d .less i hb ha l))
 
-    pub number-same : N a i ≡ N b i → Left a b (i + w) x
-    number-same l = record { rest = e .rest ∙ d .same i ha hb l }
+    pub number-same : Decides a b N w → i + w ≤ length a → i + w ≤ length b → N a i ≡ N b i → Left a b (i + w) x
+    number-same d ha hb l = record { rest = e .rest ∙ d .same i ha hb l }
 
 module _ (a b : List ℕ) (ba : Octets a) (bb : Octets b) where
   -- one byte more at the low end
   longer : (N : List ℕ → ℕ → ℕ) (w : ℕ) → Decides a b N w → Decides a b (λ s i. N s i * 0x100 + u8At s (i + w)) (w + 1)
   longer N w d = record {
     less = λ i ha hb l. less i ha hb l (ltb (N a i) (N b i)) refl;
-    more = λ i ha hb l. more i ha hb l (ltb (N b i) (N a i)) refl;
     same = λ i ha hb e. d .same i (omega arith) (omega arith) (high i e) ∙ step i ha hb (omega (arith, ba (i + w), bb (i + w), high i e));
   }
     where
@@ -125,12 +123,6 @@ module _ (a b : List ℕ) (ba : Octets a) (bb : Octets b) where
       less i ha hb l false e =
           let g : N b i ≤ N a i = ltb-false (N a i) (N b i) e in
           d .same i (omega arith) (omega arith) (omega (arith, ba (i + w), bb (i + w))) ∙ one a b .less (i + w) (omega arith) (omega arith) (omega (arith, ba (i + w), bb (i + w)))
-
-      more : (i : ℕ) → i + (w + 1) ≤ length a → i + (w + 1) ≤ length b → N b i * 0x100 + u8At b (i + w) < N a i * 0x100 + u8At a (i + w) → (t : Bool) → ltb (N b i) (N a i) ≡ t → bytesBefore (drop i a) (drop i b) ≡ false
-      more i ha hb l true e = d .more i (omega arith) (omega arith) (ltb-true _ _ e)
-      more i ha hb l false e =
-          let g : N a i ≤ N b i = ltb-false (N b i) (N a i) e in
-          d .same i (omega arith) (omega arith) (omega (arith, ba (i + w), bb (i + w))) ∙ one a b .more (i + w) (omega arith) (omega arith) (omega (arith, ba (i + w), bb (i + w)))
 
   pub two : Decides a b u16At 2
   two = longer _ 1 (one a b)

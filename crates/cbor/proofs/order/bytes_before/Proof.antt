@@ -26,7 +26,7 @@ returns : tie.Need-returns Inv-loop μ-loop
 returns c = number-less (c .before .before .before .before .loop .inv .3) (eight _ _ (λ k. omega (arith, c .before .before .before .before .before .before .before .shared-slice-known .given k)) (λ k. omega (arith, c .before .before .before .before .before .before .shared-slice-known2 .given k))) (omega arith) (omega arith) (omega arith)
 
 returns-2 : tie.Need-returns-2 Inv-loop μ-loop
-returns-2 c = number-more (c .before .before .before .before .before .loop .inv .3) (eight _ _ (λ k. omega (arith, c .before .before .before .before .before .before .before .before .shared-slice-known .given k)) (λ k. omega (arith, c .before .before .before .before .before .before .before .shared-slice-known2 .given k))) (omega arith) (omega arith) (omega arith)
+returns-2 c = number-more (c .before .before .before .before .before .loop .inv .3) (eight _ _ (λ k. omega (arith, c .before .before .before .before .before .before .before .shared-slice-known2 .given k)) (λ k. omega (arith, c .before .before .before .before .before .before .before .before .shared-slice-known .given k))) (omega arith) (omega arith) (omega arith)
 
 loop-again : tie.Need-loop-again Inv-loop μ-loop
 loop-again c = (omega arith, omega arith, omega arith, number-same (c .before .before .before .before .before .loop .inv .3) (eight _ _ (λ k. omega (arith, c .before .before .before .before .before .before .before .before .shared-slice-known .given k)) (λ k. omega (arith, c .before .before .before .before .before .before .before .shared-slice-known2 .given k))) (omega arith) (omega arith) (omega arith))
