@@ -25,34 +25,16 @@ use Rattle.cbor.proofs.Heads.{Shape, shape, by-form}
 use Rattle.cbor.proofs.Inside.{fault-len, len-len}
 use Rattle.cbor.proofs.Orders.{by-number, lower, higher, level, bytes-asymmetric, one, two, four, eight}
 
--- Forms below a given one hold smaller arguments, in shorter heads.
+-- Forms below a given one hold smaller arguments, in shorter heads: those of the form before it, and of the forms below that.
 module _ (a : List ℕ) (o : Octets a) {k : Kind} {v l : ℕ} (w : Shape (getD a 0 0) a k v l) where
   below-two : getD a 0 0 % 32 < 25 → (v < 0x100) × (l ≤ 2)
-  below-two h =
-      by-form (getD a 0 0 % 32)
-      (λ i. omega (arith, w .small i))
-      (λ i. omega (arith, w .one i, o 1))
-      (λ i. absurd (omega arith))
-      (λ i. absurd (omega arith))
-      (λ i. absurd (omega arith))
+  below-two h = by-number (getD a 0 0 % 32) 24 (λ i. omega (arith, w .small i)) (λ i. omega (arith, w .one i, o 1)) (λ i. absurd (omega arith))
 
   below-four : getD a 0 0 % 32 < 26 → (v < 0x1_0000) × (l ≤ 3)
-  below-four h =
-      by-form (getD a 0 0 % 32)
-      (λ i. omega (arith, w .small i))
-      (λ i. omega (arith, w .one i, o 1))
-      (λ i. omega (arith, w .two i, o 1, o 2))
-      (λ i. absurd (omega arith))
-      (λ i. absurd (omega arith))
+  below-four h = by-number (getD a 0 0 % 32) 25 (λ i. omega (arith, below-two i)) (λ i. omega (arith, w .two i, o 1, o 2)) (λ i. absurd (omega arith))
 
   below-eight : getD a 0 0 % 32 < 27 → (v < 0x1_0000_0000) × (l ≤ 5)
-  below-eight h =
-      by-form (getD a 0 0 % 32)
-      (λ i. omega (arith, w .small i))
-      (λ i. omega (arith, w .one i, o 1))
-      (λ i. omega (arith, w .two i, o 1, o 2))
-      (λ i. omega (arith, w .four i, o 1, o 2, o 3, o 4))
-      (λ i. absurd (omega arith))
+  below-eight h = by-number (getD a 0 0 % 32) 26 (λ i. omega (arith, below-four i)) (λ i. omega (arith, w .four i, o 1, o 2, o 3, o 4)) (λ i. absurd (omega arith))
 
 -- The heads of two keys.
 module _ (a b : List ℕ) (oa : Octets a) (ob : Octets b) {k j : Kind} {v l v′ l′ : ℕ} (s : Shape (getD a 0 0) a k v l) (t : Shape (getD b 0 0) b j v′ l′) where

@@ -1,5 +1,5 @@
--- The rules are `Bytes`, `Head`, `Order` and `Item`, in the order of document 01. `Theorems` says what is proved
--- of them, and `Answer` is how the crate's own functions hand them on.
+-- The rules are `Bytes`, `Head`, `Order` and `Item`, in the order of document 01. `Theorems` says what is proved of them, and `Answer` is what
+-- the crate's own functions ask of each other and how they answer.
 pub mod Choice
 pub mod Bytes
 pub mod Head

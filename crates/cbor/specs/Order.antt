@@ -1,4 +1,4 @@
--- The order of a map's encoded keys: that of X.1278.
+-- The order of a map's encoded keys: that of X.1278, clause 11 (request 2026-03).
 use Prim.Native.Nat.{ℕ, _/_}
 use mathlib.Core.List.{List, [], _∷_}
 use mathlib.Core.Bool.{Bool, true, false}
