@@ -51,7 +51,8 @@ pub fn item_length(bytes: &[u8], levels: u8) -> Result<usize, Breach> {
 /// (X.1278, clause 11).
 pub fn key_order(one: &[u8], other: &[u8]) -> Ordering {
     let major = |key: &[u8]| key.first().map(|first| first >> 5);
-    (major(one).cmp(&major(other)))
+    major(one)
+        .cmp(&major(other))
         .then(one.len().cmp(&other.len()))
         .then_with(|| one.cmp(other))
 }

@@ -9,6 +9,23 @@ use model::trial::item::Tree;
 const MAKE_CREDENTIAL: u8 = 0x01;
 const GET_ASSERTION: u8 = 0x02;
 
+/// Arguments on both sides of where a longer form begins, and some that are larger than any message.
+const EDGES: [u64; 13] = [
+    0,
+    1,
+    23,
+    24,
+    255,
+    256,
+    65_535,
+    65_536,
+    0xFFFF_FFFF,
+    0x1_0000_0000,
+    0x1_0000_0001,
+    i64::MAX as u64,
+    u64::MAX,
+];
+
 type Entries = Vec<(Tree, Tree)>;
 
 fn check(command: u8, entries: Entries) -> String {
@@ -169,20 +186,8 @@ fn every_command_byte() {
 
 #[test]
 fn every_order_of_two_keys() {
-    let numbers = [
-        0,
-        1,
-        23,
-        24,
-        255,
-        256,
-        65_535,
-        65_536,
-        u32::MAX.into(),
-        u64::MAX,
-    ];
-    let mut keys: Vec<Tree> = numbers.map(Tree::unsigned).to_vec();
-    keys.extend(numbers.map(minus));
+    let mut keys: Vec<Tree> = EDGES.map(Tree::unsigned).to_vec();
+    keys.extend(EDGES.map(minus));
     let mut contents = ["", "a", "b", "aa", "ab", "a longer key than twenty-four"]
         .map(String::from)
         .to_vec();
@@ -233,25 +238,10 @@ fn every_nesting() {
 
 #[test]
 fn every_form_of_a_length() {
-    let arguments = [
-        0,
-        1,
-        23,
-        24,
-        255,
-        256,
-        65_535,
-        65_536,
-        0xFFFF_FFFF,
-        0x1_0000_0000,
-        0x1_0000_0001,
-        i64::MAX as u64,
-        u64::MAX,
-    ];
     let mut lines = Vec::new();
     for major in 0..8_u8 {
         for (low, form) in [(24, 1), (25, 2), (26, 4), (27, 8)] {
-            for argument in arguments {
+            for argument in EDGES {
                 for content in [0, 1, 2, 24, 255, 256, 512] {
                     let mut item = vec![major << 5 | low];
                     item.extend_from_slice(&argument.to_be_bytes()[8 - form..]);

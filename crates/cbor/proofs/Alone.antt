@@ -1,6 +1,6 @@
 -- A head and a key rest on their own bytes alone: other bytes that begin with the same ones hold the same head and the same key. So a key that
 -- was read in a message is a key when it is cut out of it.
-use Prim.Native.Nat.{ℕ, _+_, _-_, _≤_, _<_}
+use Prim.Native.Nat.{ℕ, _-_, _≤_, _<_}
 use mathlib.Core.Path.{_≡_, refl, sym, ap, _∙_}
 use mathlib.Core.List.{List}
 use mathlib.Core.Bool.{Bool, true, false}
@@ -22,15 +22,15 @@ use Rattle.cbor.specs.declared.head.Head.the-variants.{Of, Bad}
 use Rattle.cbor.specs.declared.Item.the-variants.{Len, Fault}
 use Rattle.cbor.proofs.Heads.{shape, head-some}
 use Rattle.cbor.proofs.Items.{key-within, read-fits}
-use Rattle.cbor.proofs.Inside.{fault-len, len-len, read-part}
+use Rattle.cbor.proofs.Inside.{fault-len, len-len, string-size, read-part}
 
 bad-of : {A : Type 0} {k : Kind} {v l : ℕ} → Bad ≡ Of k v l → A
 bad-of e = let z : _≡_ {A = ℕ} 0 1 = cc in absurd (omega arith)
 
 -- t begins with the first n bytes of s.
-pub record Begins (s t : List ℕ) (n : ℕ) : Type 0 where
-  pub fits : n ≤ length t
-  pub byte : (i : ℕ) → i < n → getD t i 0 ≡ getD s i 0
+record Begins (s t : List ℕ) (n : ℕ) : Type 0 where
+  fits : n ≤ length t
+  byte : (i : ℕ) → i < n → getD t i 0 ≡ getD s i 0
 
 module _ (s t : List ℕ) {j : Kind} {v l : ℕ} (w : Begins s t l) where
   -- A head of m bytes whose argument is x in s, and y in t.
@@ -55,7 +55,7 @@ module _ (s t : List ℕ) {j : Kind} {v l : ℕ} (w : Begins s t l) where
       go false false true = long-same k 5 (u32At s 1) (u32At t 1) 0x1_0000 (λ i. rw (w .byte 1 (omega arith), w .byte 2 (omega arith), w .byte 3 (omega arith), w .byte 4 (omega arith)))
       go false false false = long-same k 9 (u64At s 1) (u64At t 1) 0x1_0000_0000 (λ i. rw (w .byte 1 (omega arith), w .byte 2 (omega arith), w .byte 3 (omega arith), w .byte 4 (omega arith), w .byte 5 (omega arith), w .byte 6 (omega arith), w .byte 7 (omega arith), w .byte 8 (omega arith)))
 
-  pub head-same : headOf s ≡ Of j v l → headOf t ≡ Of j v l
+  head-same : headOf s ≡ Of j v l → headOf t ≡ Of j v l
   unfolding headAfter
   head-same e =
       let h = shape s e in
@@ -70,11 +70,7 @@ module _ (s t : List ℕ) {j : Kind} {v l : ℕ} (w : Begins s t l) where
 -- A string ends at n in s, so it does in t, which has as many bytes.
 string-same : (v l n : ℕ) (s t : List ℕ) → n ≤ length t → stringOf v l s ≡ Len n → (l ≤ n) × (stringOf v l t ≡ Len n)
 unfolding stringOf
-string-same v l n s t f = go (leb v (length s - l))
-  where
-    go : (x : Bool) → (if x then Len (l + v) else Fault 0) ≡ Len n → (l ≤ n) × (stringOf v l t ≡ Len n)
-    go true e = let i : l + v ≡ n = len-len e in (omega arith, rw (le-leb v (length t - l) (omega arith)) e)
-    go false e = fault-len e
+string-same v l n s t f e = let i = string-size v l n s e in (omega arith, rw (le-leb v (length t - l) (omega arith)) (ap Len (sym i)))
 
 plain-same : (k : Kind) (v l n : ℕ) (s t : List ℕ) → n ≤ length t → plainOf k v l s ≡ Len n → (l ≤ n) × (plainOf k v l t ≡ Len n)
 plain-same Unsigned v l n s t f e = (omega (arith, len-len e), e)
@@ -85,7 +81,7 @@ plain-same Array v l n s t f e = fault-len e
 plain-same Map v l n s t f e = fault-len e
 plain-same Simple v l n s t f e = (omega (arith, len-len e), e)
 
-pub key-same : (s t : List ℕ) (n : ℕ) → Begins s t n → keyOf s ≡ Len n → keyOf t ≡ Len n
+key-same : (s t : List ℕ) (n : ℕ) → Begins s t n → keyOf s ≡ Len n → keyOf t ≡ Len n
 unfolding keyOf byHead keyOfKind
 key-same s t n w e = go (headOf s) refl e
   where

@@ -1,29 +1,28 @@
--- On keys the rule of X.1278 is to compare the encoded keys byte by byte. The first byte holds the major type and the additional information,
--- and a canonical argument is the larger the larger the information is; so the first byte that differs tells the major type, the length, or
--- a byte of equal place.
-use Prim.Native.Nat.{ℕ, zero, suc, _+_, _-_, _%_, _≤_, _<_}
+-- On keys the rule of X.1278 is to compare the encoded keys byte by byte. A first byte that differs differs in the major type, or in the form of
+-- the head; a lower form holds a smaller argument in a shorter head, so the key is shorter or of equal length. Under one first byte integers have
+-- one length, and of two strings the shorter has the smaller argument, which the bytes after the first tell.
+use Prim.Native.Nat.{ℕ, zero, suc, _+_, _%_, _≤_, _<_}
 use mathlib.Core.Path.{_≡_, refl, sym, _∙_}
 use mathlib.Core.Logic.{inl, inr}
 use mathlib.Core.List.{List, [], _∷_}
 use mathlib.Core.Bool.{Bool, true, false}
 use native.Mathlib.Omega.{arith}
 use lib.ListN.{length, getD, drop}
-use lib.Dec.{ltb, leb}
+use lib.Dec.{ltb}
 use borrow.Author.Tests.{ltb-true, ltb-false}
-use Rattle.cbor.specs.Choice.{if_then_else_}
 use Rattle.cbor.specs.Bytes.{Octets}
 use Rattle.cbor.specs.Head.{kindOf, headOf}
 use Rattle.cbor.specs.Order.{bytesBefore, majorType, keyBefore}
-use Rattle.cbor.specs.Item.{stringOf, keyOfKind, byHead, keyOf, Key}
+use Rattle.cbor.specs.Item.{keyOfKind, byHead, keyOf, Key}
 use Rattle.cbor.specs.Answer.{KeyOrNone}
 use Rattle.cbor.specs.Theorems.{ByteByByte}
 use Rattle.cbor.specs.declared.head.Kind.{Kind}
 use Rattle.cbor.specs.declared.head.Head.{Head}
 use Rattle.cbor.specs.declared.head.Head.the-variants.{Of, Bad}
-use Rattle.cbor.specs.declared.Item.the-variants.{Len, Fault}
+use Rattle.cbor.specs.declared.Item.the-variants.{Len}
 use Rattle.cbor.proofs.Heads.{Shape, shape, by-form}
-use Rattle.cbor.proofs.Inside.{fault-len, len-len}
-use Rattle.cbor.proofs.Orders.{by-number, lower, higher, level, bytes-asymmetric, one, two, four, eight}
+use Rattle.cbor.proofs.Inside.{fault-len, len-len, string-size}
+use Rattle.cbor.proofs.Orders.{Left, by-number, lower, higher, level, bytes-asymmetric, one, two, four, eight}
 
 -- Forms below a given one hold smaller arguments, in shorter heads: those of the form before it, and of the forms below that.
 module _ (a : List ℕ) (o : Octets a) {k : Kind} {v l : ℕ} (w : Shape (getD a 0 0) a k v l) where
@@ -71,14 +70,6 @@ record Parts (a : List ℕ) : Type 0 where
   number : majorType a < 2 → length a ≡ l
   string : 2 ≤ majorType a → length a ≡ l + v
 
-string-size : (v l n : ℕ) (s : List ℕ) → stringOf v l s ≡ Len n → n ≡ l + v
-unfolding stringOf
-string-size v l n s = go (leb v (length s - l))
-  where
-    go : (t : Bool) → (if t then Len (l + v) else Fault 0) ≡ Len n → n ≡ l + v
-    go true e = sym (len-len e)
-    go false e = fault-len e
-
 -- The size of a key by its major type m.
 abbrev Size : ℕ → ℕ → ℕ → ℕ → Type 0
 Size m v l n = (m < 2 → n ≡ l) × (2 ≤ m → n ≡ l + v)
@@ -97,8 +88,8 @@ unfolding keyOf byHead keyOfKind
 parts a e = go (headOf a) refl e
   where
     sized : (k : Kind) (v l : ℕ) → Shape (getD a 0 0) a k v l → keyOfKind k v l a ≡ Len (length a) → (x : Bool) → ltb (majorType a) 6 ≡ x → Size (majorType a) v l (length a)
-    sized k v l w g true p = key-size (majorType a) v l (length a) a (rw (w .kind (ltb-true _ _ p)) at g)
-    sized k v l w g false p = fault-len (rw (w .simple (ltb-false _ _ p)) at g)
+    sized k v l w g true p = key-size (majorType a) v l (length a) a (rw (w .kind (omega (arith, ltb-true (majorType a) 6 p))) at g)
+    sized k v l w g false p = fault-len (rw (w .simple (omega (arith, ltb-false (majorType a) 6 p))) at g)
 
     go : (h : Head) → headOf a ≡ h → byHead keyOfKind h a ≡ Len (length a) → Parts a
     go (Of k v l) q g =
@@ -107,9 +98,12 @@ parts a e = go (headOf a) refl e
         record { k = k; v = v; l = l; head = w; number = n .0; string = n .1 }
     go Bad q g = fault-len g
 
+some-byte : (a : List ℕ) → Parts a → 0 < length a
+some-byte a p = omega (arith, p .head .some, p .head .fits)
+
 module _ (a b : List ℕ) (oa : Octets a) (ob : Octets b) (p : Parts a) (q : Parts b) where
   lower-first : getD a 0 0 < getD b 0 0 → bytesBefore a b ≡ true
-  lower-first h = one a b .less 0 (omega (arith, p .head .some, p .head .fits)) (omega (arith, q .head .some, q .head .fits)) h
+  lower-first h = one a b .less 0 (some-byte a p) (some-byte b q) h
 
   -- Keys of one major type are both integers or both strings.
   by-size : {A : Type 0} → majorType a ≡ majorType b → (length a ≡ p .l → length b ≡ q .l → A) → (length a ≡ p .l + p .v → length b ≡ q .l + q .v → A) → A
@@ -125,7 +119,7 @@ module _ (a b : List ℕ) (oa : Octets a) (ob : Octets b) (p : Parts a) (q : Par
       by-number (getD a 0 0 % 32) (getD b 0 0 % 32)
       (λ g. lower-first (omega arith))
       (λ g. let f = same-form a b oa ob (p .head) (q .head) g in
-      one a b .same 0 (omega (arith, p .head .some, p .head .fits)) (omega (arith, q .head .some, q .head .fits)) (omega arith)
+      one a b .same 0 (some-byte a p) (some-byte b q) (omega arith)
       ∙ f .1 (by-size m (λ i j. absurd (omega (arith, f .0))) (λ i j. omega (arith, f .0))))
       (λ g. let f = lower-form b a ob oa (q .head) (p .head) g in by-size m (λ i j. absurd (omega arith)) (λ i j. absurd (omega arith)))
 
@@ -146,13 +140,14 @@ byte-by-byte a b oa ob ka kb =
 -- No bytes come before every key, by the rule and byte by byte.
 none-first : (b : List ℕ) → Parts b → keyBefore [] b ≡ bytesBefore [] b
 unfolding keyBefore bytesBefore
-none-first [] p = absurd (omega (arith, p .head .some, p .head .fits))
+none-first [] p = absurd (omega (arith, some-byte [] p))
 none-first (y ∷ b) p =
     by-number 0 (majorType (y ∷ b))
     (λ h. lower _ _ _ h)
     (λ h. level _ _ _ h ∙ lower 0 (length (y ∷ b)) _ (omega arith))
     (λ h. absurd (omega arith))
 
-pub key-or-none : (a b : List ℕ) → Octets a → Octets b → KeyOrNone a → Key b → keyBefore a b ≡ bytesBefore a b
-key-or-none a b oa ob (inl e) kb = rw e (none-first b (parts b kb))
-key-or-none a b oa ob (inr ka) kb = byte-by-byte a b oa ob ka kb
+-- So the bytes decide, from the first on.
+pub by-bytes : (a b : List ℕ) → Octets a → Octets b → KeyOrNone a → Key b → Left a b 0 (keyBefore a b)
+by-bytes a b oa ob (inl e) kb = record { rest = rw e (none-first b (parts b kb)) }
+by-bytes a b oa ob (inr ka) kb = record { rest = byte-by-byte a b oa ob ka kb }

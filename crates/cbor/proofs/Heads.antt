@@ -61,26 +61,25 @@ module _ (b : ℕ) (s : List ℕ) (n : 0 < length s) where
 
   -- the argument follows, in a head of l bytes
   module _ (m : b / 32 < 6) (i : 24 ≤ b % 32) (f : b % 32 < 28) where
-    module _ (l v least : ℕ) (p : 0 < l) where
-      long-shaped : (b % 32 ≡ 24 → (l ≡ 2) × (v ≡ u8At s 1) × (least ≡ 0x18)) → (b % 32 ≡ 25 → (l ≡ 3) × (v ≡ u16At s 1) × (least ≡ 0x100)) → (b % 32 ≡ 26 → (l ≡ 5) × (v ≡ u32At s 1) × (least ≡ 0x1_0000)) → (26 < b % 32 → (l ≡ 9) × (v ≡ u64At s 1) × (least ≡ 0x1_0000_0000)) → Shaped b s (longHead (kindOf (b / 32)) s l v least)
-      unfolding longHead shortestOf
-      long-shaped e1 e2 e4 e8 = go (leb l (length s)) (leb least v) refl refl
-        where
-          go : (x y : Bool) → leb l (length s) ≡ x → leb least v ≡ y → Shaped b s (if x then (if y then Of (kindOf (b / 32)) v l else Bad) else Bad)
-          go true true q r = let w : least ≤ v = leb-true _ _ r in record {
-            kind = λ _. refl;
-            simple = λ h. absurd (omega arith);
-            small = λ h. absurd (omega arith);
-            one = λ h. (e1 h .0, e1 h .1, omega (arith, e1 h .2));
-            two = λ h. (e2 h .0, e2 h .1, omega (arith, e2 h .2));
-            four = λ h. (e4 h .0, e4 h .1, omega (arith, e4 h .2));
-            eight = λ h. (e8 h .0, e8 h .1, omega (arith, e8 h .2));
-            last-form = f;
-            some = p;
-            fits = leb-true _ _ q;
-          }
-          go true false q r = tt
-          go false y q r = tt
+    long-shaped : (l v least : ℕ) → 0 < l → (b % 32 ≡ 24 → (l ≡ 2) × (v ≡ u8At s 1) × (least ≡ 0x18)) → (b % 32 ≡ 25 → (l ≡ 3) × (v ≡ u16At s 1) × (least ≡ 0x100)) → (b % 32 ≡ 26 → (l ≡ 5) × (v ≡ u32At s 1) × (least ≡ 0x1_0000)) → (26 < b % 32 → (l ≡ 9) × (v ≡ u64At s 1) × (least ≡ 0x1_0000_0000)) → Shaped b s (longHead (kindOf (b / 32)) s l v least)
+    unfolding longHead shortestOf
+    long-shaped l v least p e1 e2 e4 e8 = go (leb l (length s)) (leb least v) refl refl
+      where
+        go : (x y : Bool) → leb l (length s) ≡ x → leb least v ≡ y → Shaped b s (if x then (if y then Of (kindOf (b / 32)) v l else Bad) else Bad)
+        go true true q r = let w : least ≤ v = leb-true _ _ r in record {
+          kind = λ _. refl;
+          simple = λ h. absurd (omega arith);
+          small = λ h. absurd (omega arith);
+          one = λ h. (e1 h .0, e1 h .1, omega (arith, e1 h .2));
+          two = λ h. (e2 h .0, e2 h .1, omega (arith, e2 h .2));
+          four = λ h. (e4 h .0, e4 h .1, omega (arith, e4 h .2));
+          eight = λ h. (e8 h .0, e8 h .1, omega (arith, e8 h .2));
+          last-form = f;
+          some = p;
+          fits = leb-true _ _ q;
+        }
+        go true false q r = tt
+        go false y q r = tt
 
     form-shaped : Shaped b s (headInForm (kindOf (b / 32)) (b % 32 - 24) s)
     unfolding headInForm

@@ -1,5 +1,5 @@
--- An array or a map that was read whole has each of its items whole, one where the last ended, and they end where it ends. And what was read
--- in a part of the message holds of the message.
+-- A string that was read whole has all its bytes. An array or a map that was read whole has each of its items whole, one where the last ended,
+-- and they end where it ends. And what was read in a part of the message holds of the message.
 use Prim.Native.Nat.{ℕ, zero, suc, _+_, _-_, _≤_}
 use mathlib.Core.Path.{_≡_, refl, sym, ap, subst, _∙_}
 use mathlib.Core.List.{List, []}
@@ -7,10 +7,11 @@ use mathlib.Core.Bool.{Bool, true, false}
 use native.Mathlib.Omega.{arith}
 use lib.ListN.{length, drop}
 use lib.Seq.{drop-drop}
+use lib.Dec.{leb}
 use Rattle.cbor.specs.Choice.{if_then_else_}
 use Rattle.cbor.specs.Head.{headOf}
 use Rattle.cbor.specs.Order.{keyBefore}
-use Rattle.cbor.specs.Item.{part, countedFrom, readAt, andThen, byHead, keyOf, nextKeyOf, elementsOf, entriesOf, itemOf}
+use Rattle.cbor.specs.Item.{part, countedFrom, readAt, andThen, stringOf, byHead, keyOf, nextKeyOf, elementsOf, entriesOf, itemOf}
 use Rattle.cbor.specs.declared.head.Kind.the-variants.{Array, Map}
 use Rattle.cbor.specs.declared.head.Head.the-variants.{Of}
 use Rattle.cbor.specs.declared.Item.{Item}
@@ -22,6 +23,15 @@ fault-len e = let z : _≡_ {A = ℕ} 0 1 = cc in absurd (omega arith)
 
 pub len-len : {m n : ℕ} → Len m ≡ Len n → m ≡ n
 len-len e = cc
+
+-- A string that was read whole ends v bytes after its head.
+pub string-size : (v l n : ℕ) (s : List ℕ) → stringOf v l s ≡ Len n → n ≡ l + v
+unfolding stringOf
+string-size v l n s = go (leb v (length s - l))
+  where
+    go : (t : Bool) → (if t then Len (l + v) else Fault 0) ≡ Len n → n ≡ l + v
+    go true e = sym (len-len e)
+    go false e = fault-len e
 
 -- What was read at a place, as the part that begins there has it.
 pub read-part : (f : List ℕ → Item) (s : List ℕ) (at end : ℕ) → readAt f s at ≡ Len end → (at ≤ end) × (f (drop at s) ≡ Len (end - at))

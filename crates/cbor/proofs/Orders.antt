@@ -3,7 +3,7 @@
 use Prim.Native.Nat.{ℕ, _+_, _*_, _≤_, _<_}
 use mathlib.Core.Path.{_≡_, refl, sym, _∙_}
 use mathlib.Core.List.{List, [], _∷_}
-use mathlib.Core.Bool.{Bool, true, false}
+use mathlib.Core.Bool.{Bool, true, false, true≢false}
 use native.Mathlib.Omega.{arith}
 use native.Mathlib.Numerals.{add-one}
 use lib.ListN.{length, drop, drop-of-length-le}
@@ -12,9 +12,6 @@ use lib.Dec.{ltb}
 use borrow.Author.Tests.{lt-ltb, le-ltb, ltb-true, ltb-false}
 use Rattle.cbor.specs.Bytes.{u8At, u16At, u32At, u64At, Octets}
 use Rattle.cbor.specs.Order.{lowerFirst, bytesBefore}
-
-pub false-true : {A : Type 0} → false ≡ true → A
-false-true e = let z : _≡_ {A = ℕ} 0 1 = cc in absurd (omega arith)
 
 -- The three ways in which two numbers can stand: what holds in each holds.
 pub by-number : {A : Type 0} (m n : ℕ) → (m < n → A) → (m ≡ n → A) → (n < m → A) → A
@@ -37,7 +34,7 @@ module _ (m n : ℕ) (t : Bool) where
 
   -- Where m comes first it is lower, or equal and t decides so.
   pub comes-first : {A : Type 0} → lowerFirst m n t ≡ true → (m < n → A) → (m ≡ n → t ≡ true → A) → A
-  comes-first e f g = by-number m n f (λ h. g h (rw (level h) at e)) (λ h. false-true (rw (higher h) at e))
+  comes-first e f g = by-number m n f (λ h. g h (rw (level h) at e)) (λ h. absurd (true≢false (sym (rw (higher h) at e))))
 
 -- What is transitive goes on being so behind a number that is compared before it.
 pub behind : (x y z : ℕ) {s t u : Bool} → (s ≡ true → t ≡ true → u ≡ true) → lowerFirst x y s ≡ true → lowerFirst y z t ≡ true → lowerFirst x z u ≡ true
@@ -48,17 +45,17 @@ behind x y z next e f =
 
 pub bytes-transitive : (a b c : List ℕ) → bytesBefore a b ≡ true → bytesBefore b c ≡ true → bytesBefore a c ≡ true
 unfolding bytesBefore
-bytes-transitive a [] [] e f = false-true f
-bytes-transitive a (y ∷ b) [] e f = false-true f
+bytes-transitive a [] [] e f = absurd (true≢false (sym f))
+bytes-transitive a (y ∷ b) [] e f = absurd (true≢false (sym f))
 bytes-transitive [] b (z ∷ c) e f = refl
-bytes-transitive (x ∷ a) [] (z ∷ c) e f = false-true e
+bytes-transitive (x ∷ a) [] (z ∷ c) e f = absurd (true≢false (sym e))
 bytes-transitive (x ∷ a) (y ∷ b) (z ∷ c) e f = behind x y z (bytes-transitive a b c) e f
 
 pub bytes-asymmetric : (a b : List ℕ) → bytesBefore a b ≡ true → bytesBefore b a ≡ false
 unfolding bytesBefore
 bytes-asymmetric [] [] e = refl
 bytes-asymmetric [] (y ∷ b) e = refl
-bytes-asymmetric (x ∷ a) [] e = false-true e
+bytes-asymmetric (x ∷ a) [] e = absurd (true≢false (sym e))
 bytes-asymmetric (x ∷ a) (y ∷ b) e = comes-first x y _ e (λ h. higher y x _ h) (λ h g. level y x _ (sym h) ∙ bytes-asymmetric a b g)
 
 -- A number N that is read in w bytes decides the order: the one with the lower number comes first, and equal ones leave it to what follows.

@@ -17,7 +17,7 @@ bytesBefore [] (y ∷ b) = true
 bytesBefore (x ∷ a) [] = false
 bytesBefore (x ∷ a) (y ∷ b) = lowerFirst x y (bytesBefore a b)
 
--- The major type is the high three bits of the first byte.
+-- The major type is the high three bits of the first byte; that of no bytes counts as 0.
 abbrev pub majorType : List ℕ → ℕ
 majorType a = getD a 0 0 / 32
 

@@ -1,5 +1,5 @@
-// The order of a map's encoded keys. Between keys it is that of their bytes, and comparing these is the cheaper way: the first byte mostly decides,
-// and neither major types nor lengths are compared on their own.
+// The order of a map's encoded keys. Between keys it is that of their bytes (`ByteByByte`), and comparing these is the cheaper way: no major
+// type is taken out of a byte, and no length compared.
 ghost use mathlib.Core.Path.{_≡_};
 ghost use Prim.Native.Nat.{_≤_};
 ghost use lib.ListN.{length, drop};
@@ -8,11 +8,23 @@ ghost use Rattle.cbor.specs.Item.{Key};
 ghost use Rattle.cbor.specs.Answer.{KeyOrNone};
 use crate::bytes;
 
-// Whether the encoded key a, or no key before the first, comes strictly before the encoded key b.
+// Whether the encoded key a, or no key before the first, comes strictly before the encoded key b. The first byte mostly decides, so it is
+// looked at before all else.
 pub(crate) fn key_before(a: &[u8], b: &[u8]) -> bool
     requires { ⌜ KeyOrNone (now a) × Key (now b) ⌝ }
     ensures { λ r. ⌜ r ≡ keyBefore (now (a .entry)) (now (b .entry)) ⌝ }
 {
+    if a.len() == 0 {
+        return true;
+    }
+    let x = a[0];
+    let y = b[0];
+    if x < y {
+        return true;
+    }
+    if y < x {
+        return false;
+    }
     bytes_before(a, b)
 }
 

@@ -1,21 +1,21 @@
 -- What a good answer says: exactly one canonical map follows the command, and the place in the answer is that of the 32 bytes of the client data hash.
 use Prim.Native.Nat.{ℕ, _+_, _-_, _≤_}
-use mathlib.Core.Path.{_≡_, refl, ap}
+use mathlib.Core.Path.{_≡_, refl, sym, ap}
 use mathlib.Core.List.{List, [], _∷_}
-use mathlib.Core.Bool.{Bool, true, false}
+use mathlib.Core.Bool.{Bool, true, false, true≢false}
 use native.Mathlib.Omega.{arith}
 use lib.ListN.{length, getD, drop}
-use lib.Dec.{eqb, leb, ltb}
+use lib.Dec.{eqb, ltb}
 use borrow.Author.Tests.{eqb-true, le-leb}
 use Rattle.cbor.specs.Choice.{if_then_else_}
 use Rattle.cbor.specs.Head.{headOf}
-use Rattle.cbor.specs.Item.{readAt, stringOf, byHead, itemOf}
+use Rattle.cbor.specs.Item.{readAt, byHead, itemOf}
 use Rattle.cbor.specs.declared.head.Kind.the-variants.{Bytes}
 use Rattle.cbor.specs.declared.head.Head.{Head}
 use Rattle.cbor.specs.declared.head.Head.the-variants.{Of, Bad}
 use Rattle.cbor.specs.declared.Item.{Item}
 use Rattle.cbor.specs.declared.Item.the-variants.{Len, Fault}
-use Rattle.cbor.proofs.Inside.{fault-len, read-part}
+use Rattle.cbor.proofs.Inside.{string-size, read-part}
 use Rattle.command.specs.declared.Checked.{Checked}
 use Rattle.command.specs.declared.Checked.the-variants.{Info, Good, Refused}
 use Rattle.command.specs.declared.walk.Found.{Found}
@@ -31,20 +31,17 @@ use Rattle.command.specs.Check.{hashOf, noneOurs, shownOf, goodOf, settl
 use Rattle.command.proofs.Runs.{kind-by, shape-at, map-value-read}
 use Rattle.command.proofs.Arguments.{in-second}
 
-false-true : {A : Type 0} → false ≡ true → A
-false-true e = let z : _≡_ {A = ℕ} 0 1 = cc in absurd (omega arith)
-
 pub one-map : (s : List ℕ) → oneMap s ≡ true → (readAt (itemOf 4) s 1 ≡ Len (length s)) × (majorAt s 1 ≡ map)
 unfolding oneMap
 one-map s e = go (eqb (majorAt s 1) map) refl e
   where
     ends : (x : Item) → endsAt (length s) x ≡ true → x ≡ Len (length s)
     ends (Len n) h = ap Len (eqb-true n (length s) h)
-    ends (Fault p) h = false-true h
+    ends (Fault p) h = absurd (true≢false (sym h))
 
     go : (t : Bool) → eqb (majorAt s 1) map ≡ t → (if t then endsAt (length s) (readAt (itemOf 4) s 1) else false) ≡ true → (readAt (itemOf 4) s 1 ≡ Len (length s)) × (majorAt s 1 ≡ map)
     go true i h = (ends (readAt (itemOf 4) s 1) h, eqb-true (majorAt s 1) map i)
-    go false i h = false-true h
+    go false i h = absurd (true≢false (sym h))
 
 -- A value that is not wrong has no part that is.
 abbrev NotWrong : Value → Type 0
@@ -97,12 +94,8 @@ head-32 s p (Of k v l) g m e =
 head-32 s p Bad g m e = absurd (omega arith)
 
 string-32 : (d : List ℕ) (n : ℕ) → headOf d ≡ Of Bytes 32 2 → itemOf 3 d ≡ Len n → n ≡ 34
-unfolding itemOf byHead stringOf
-string-32 d n h e = go (leb 32 (length d - 2)) (rw h at e)
-  where
-    go : (t : Bool) → (if t then Len 34 else Fault 0) ≡ Len n → n ≡ 34
-    go true i = cc
-    go false i = fault-len i
+unfolding itemOf byHead
+string-32 d n h e = string-size 32 2 n d (rw h at e)
 
 -- What an answer that is good came through.
 refused-good : {A : Type 0} {e at : ℕ} → Refused e ≡ Good at → A
