@@ -74,6 +74,19 @@ module _ (f : List ℕ → Item) (s : List ℕ) (end : ℕ) where
   pub items-fit : Bounded f → (n at : ℕ) → at ≤ length s → elementsOf f n s at ≡ Len end → (at ≤ end) × (end ≤ length s)
   items-fit t n at h e = subst (λ (x : Item). Within at (length s) x) e (elements-within f t n s at h)
 
+-- The next key of a map that was read: it is a key, and comes after the one before.
+pub next-key : (s prev : List ℕ) (at mid : ℕ) → nextKeyOf s prev at ≡ Len mid → (readAt keyOf s at ≡ Len mid) × (keyBefore prev (part s at mid) ≡ true)
+unfolding nextKeyOf andThen
+next-key s prev at mid e = go (readAt keyOf s at) e
+  where
+    in-order : (end : ℕ) (t : Bool) → keyBefore prev (part s at end) ≡ t → (if t then Len end else Fault at) ≡ Len mid → (Len end ≡ Len mid) × (keyBefore prev (part s at mid) ≡ true)
+    in-order end true o h = (h, rw (len-len h) at o)
+    in-order end false o h = fault-len h
+
+    go : (x : Item) → andThen x (λ end. if keyBefore prev (part s at end) then Len end else Fault at) ≡ Len mid → (x ≡ Len mid) × (keyBefore prev (part s at mid) ≡ true)
+    go (Len end) h = in-order end (keyBefore prev (part s at end)) refl h
+    go (Fault p) h = fault-len h
+
 -- The entries of a map, one by one.
 pub record NextEntry (f : List ℕ → Item) (s : List ℕ) (end n : ℕ) (prev : List ℕ) (at : ℕ) : Type 0 where
   pub mid : ℕ
@@ -85,19 +98,15 @@ pub record NextEntry (f : List ℕ → Item) (s : List ℕ) (end n : ℕ) (prev 
 
 module _ (f : List ℕ → Item) (s : List ℕ) (end : ℕ) where
   pub next-entry : (n : ℕ) (prev : List ℕ) (at : ℕ) → entriesOf f (suc n) s prev at ≡ Len end → NextEntry f s end n prev at
-  unfolding entriesOf nextKeyOf andThen
-  next-entry n prev at e = go (readAt keyOf s at) refl e
+  unfolding entriesOf andThen
+  next-entry n prev at e = go (nextKeyOf s prev at) refl e
     where
-      by-value : (mid : ℕ) → readAt keyOf s at ≡ Len mid → keyBefore prev (part s at mid) ≡ true → (x : Item) → readAt f s mid ≡ x → andThen x (λ next. entriesOf f n s (part s at mid) next) ≡ Len end → NextEntry f s end n prev at
-      by-value mid k o (Len next) g h = record { mid = mid; next = next; key = k; order = o; value = g; run = h }
-      by-value mid k o (Fault p) g h = fault-len h
+      by-value : (mid : ℕ) → nextKeyOf s prev at ≡ Len mid → (x : Item) → readAt f s mid ≡ x → andThen x (λ next. entriesOf f n s (part s at mid) next) ≡ Len end → NextEntry f s end n prev at
+      by-value mid k (Len next) g h = let w = next-key s prev at mid k in record { mid = mid; next = next; key = w .0; order = w .1; value = g; run = h }
+      by-value mid k (Fault p) g h = fault-len h
 
-      by-order : (mid : ℕ) → readAt keyOf s at ≡ Len mid → (t : Bool) → keyBefore prev (part s at mid) ≡ t → andThen (if t then Len mid else Fault at) (λ m. andThen (readAt f s m) (λ next. entriesOf f n s (part s at m) next)) ≡ Len end → NextEntry f s end n prev at
-      by-order mid k true o h = by-value mid k o (readAt f s mid) refl h
-      by-order mid k false o h = fault-len h
-
-      go : (x : Item) → readAt keyOf s at ≡ x → andThen (andThen x (λ mid. if keyBefore prev (part s at mid) then Len mid else Fault at)) (λ m. andThen (readAt f s m) (λ next. entriesOf f n s (part s at m) next)) ≡ Len end → NextEntry f s end n prev at
-      go (Len mid) g h = by-order mid g (keyBefore prev (part s at mid)) refl h
+      go : (x : Item) → nextKeyOf s prev at ≡ x → andThen x (λ m. andThen (readAt f s m) (λ next. entriesOf f n s (part s at m) next)) ≡ Len end → NextEntry f s end n prev at
+      go (Len mid) g h = by-value mid g (readAt f s mid) refl h
       go (Fault p) g h = fault-len h
 
   pub entries-end : (prev : List ℕ) (at : ℕ) → entriesOf f zero s prev at ≡ Len end → at ≡ end

@@ -13,7 +13,7 @@ use borrow.Author.Tests.{leb-true, leb-false, le-leb, lt-leb}
 use Rattle.cbor.specs.Choice.{if_then_else_}
 use Rattle.cbor.specs.Head.{firstOf, headAfter, headOf}
 use Rattle.cbor.specs.Order.{keyBefore}
-use Rattle.cbor.specs.Item.{part, readAt, andThen, stringOf, plainOf, byHead, keyOf, Key, nextKeyOf, elementsOf, entriesOf, nestedOf, itemOf}
+use Rattle.cbor.specs.Item.{part, readAt, stringOf, plainOf, byHead, keyOf, Key, nextKeyOf, elementsOf, entriesOf, nestedOf, itemOf}
 use Rattle.cbor.specs.Answer.{faultBase, asNumber, shortLengthBy, shortLengthOf}
 use Rattle.cbor.specs.declared.head.Kind.{Kind}
 use Rattle.cbor.specs.declared.head.Kind.the-variants.{Unsigned, Negative, Bytes, Text, Array, Map, Simple}
@@ -25,7 +25,7 @@ use Rattle.cbor.specs.declared.Item.{Item}
 use Rattle.cbor.specs.declared.Item.the-variants.{Len, Fault}
 use Rattle.cbor.proofs.Heads.{shape, head-none, head-some}
 use Rattle.cbor.proofs.Items.{Bounded, read-within, key-within, next-within}
-use Rattle.cbor.proofs.Inside.{fault-len, len-len}
+use Rattle.cbor.proofs.Inside.{next-key}
 use Rattle.cbor.proofs.Alone.{key-part}
 use Rattle.cbor.proofs.Numbers.{is-length, goes-on, decides, ends}
 
@@ -133,16 +133,7 @@ pub read-is-key : (s : List ℕ) (at : ℕ) {r : ℕ} → r ≡ asNumber (readAt
 read-is-key s at {r} e g = key-part s at r (is-length (readAt keyOf s at) e g)
 
 pub next-is-key : (s prev : List ℕ) (at : ℕ) {m : ℕ} → m ≡ asNumber (nextKeyOf s prev at) → m < faultBase → Key (part s at m)
-unfolding nextKeyOf andThen
-next-is-key s prev at {m} e g = go (readAt keyOf s at) refl (is-length (nextKeyOf s prev at) e g)
-  where
-    in-order : (end : ℕ) → readAt keyOf s at ≡ Len end → (t : Bool) → (if t then Len end else Fault at) ≡ Len m → Key (part s at m)
-    in-order end r true h = rw (len-len h) at (key-part s at end r)
-    in-order end r false h = fault-len h
-
-    go : (x : Item) → readAt keyOf s at ≡ x → andThen x (λ end. if keyBefore prev (part s at end) then Len end else Fault at) ≡ Len m → Key (part s at m)
-    go (Len end) r h = in-order end r (keyBefore prev (part s at end)) h
-    go (Fault p) r h = fault-len h
+next-is-key s prev at {m} e g = key-part s at m (next-key s prev at m (is-length (nextKeyOf s prev at) e g) .0)
 
 -- The next key: it ends at the number r.
 module _ (s prev : List ℕ) (at : ℕ) {r : ℕ} (e : r ≡ asNumber (readAt keyOf s at)) where
