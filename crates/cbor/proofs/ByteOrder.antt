@@ -21,7 +21,7 @@ use Rattle.cbor.specs.declared.head.Head.{Head}
 use Rattle.cbor.specs.declared.head.Head.the-variants.{Of, Bad}
 use Rattle.cbor.specs.declared.Item.the-variants.{Len}
 use Rattle.cbor.proofs.Heads.{Shape, shape, by-form}
-use Rattle.cbor.proofs.Inside.{fault-len, len-len, string-size}
+use Rattle.cbor.proofs.Inside.{fault-len, len-len, string-size, text-inside}
 use Rattle.cbor.proofs.Orders.{Left, by-number, lower, higher, level, bytes-asymmetric, one, two, four, eight}
 
 -- Forms below a given one hold smaller arguments, in shorter heads: those of the form before it, and of the forms below that.
@@ -79,7 +79,7 @@ unfolding keyOfKind
 key-size zero v l n s e = (λ _. sym (len-len e), λ h. absurd (omega arith))
 key-size (suc zero) v l n s e = (λ _. sym (len-len e), λ h. absurd (omega arith))
 key-size (suc (suc zero)) v l n s e = (λ h. absurd (omega arith), λ _. string-size v l n s e)
-key-size (suc (suc (suc zero))) v l n s e = (λ h. absurd (omega arith), λ _. string-size v l n s e)
+key-size (suc (suc (suc zero))) v l n s e = (λ h. absurd (omega arith), λ _. string-size v l n s (text-inside v l n s e .0))
 key-size (suc (suc (suc (suc zero)))) v l n s e = fault-len e
 key-size (suc (suc (suc (suc (suc m))))) v l n s e = fault-len e
 

@@ -10,8 +10,9 @@ use lib.Seq.{drop-drop}
 use lib.Dec.{leb}
 use Rattle.cbor.specs.Choice.{if_then_else_}
 use Rattle.cbor.specs.Head.{headOf}
+use Rattle.cbor.specs.Utf8.{utf8}
 use Rattle.cbor.specs.Order.{keyBefore}
-use Rattle.cbor.specs.Item.{part, countedFrom, readAt, andThen, stringOf, byHead, keyOf, nextKeyOf, elementsOf, entriesOf, itemOf}
+use Rattle.cbor.specs.Item.{part, countedFrom, readAt, andThen, stringOf, checkedOf, textOf, byHead, keyOf, nextKeyOf, elementsOf, entriesOf, itemOf}
 use Rattle.cbor.specs.declared.head.Kind.the-variants.{Array, Map}
 use Rattle.cbor.specs.declared.head.Head.the-variants.{Of}
 use Rattle.cbor.specs.declared.Item.{Item}
@@ -32,6 +33,19 @@ string-size v l n s = go (leb v (length s - l))
     go : (t : Bool) → (if t then Len (l + v) else Fault 0) ≡ Len n → n ≡ l + v
     go true e = sym (len-len e)
     go false e = fault-len e
+
+-- A text that was read is a string, and UTF-8.
+pub text-inside : (v l n : ℕ) (s : List ℕ) → textOf v l s ≡ Len n → (stringOf v l s ≡ Len n) × (utf8 (part s l n) ≡ true)
+unfolding textOf checkedOf andThen
+text-inside v l n s = go (stringOf v l s)
+  where
+    checked : (end : ℕ) (t : Bool) → utf8 (part s l end) ≡ t → (if t then Len end else Fault 0) ≡ Len n → (Len end ≡ Len n) × (utf8 (part s l n) ≡ true)
+    checked end true u h = (h, rw (len-len h) at u)
+    checked end false u h = fault-len h
+
+    go : (x : Item) → andThen x (λ end. if utf8 (part s l end) then Len end else Fault 0) ≡ Len n → (x ≡ Len n) × (utf8 (part s l n) ≡ true)
+    go (Len end) h = checked end (utf8 (part s l end)) refl h
+    go (Fault p) h = fault-len h
 
 -- What was read at a place, as the part that begins there has it.
 pub read-part : (f : List ℕ → Item) (s : List ℕ) (at end : ℕ) → readAt f s at ≡ Len end → (at ≤ end) × (f (drop at s) ≡ Len (end - at))

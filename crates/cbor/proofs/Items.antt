@@ -12,8 +12,9 @@ use lib.Dec.{leb}
 use borrow.Author.Tests.{leb-true}
 use Rattle.cbor.specs.Choice.{if_then_else_}
 use Rattle.cbor.specs.Head.{headOf}
+use Rattle.cbor.specs.Utf8.{utf8}
 use Rattle.cbor.specs.Order.{keyBefore}
-use Rattle.cbor.specs.Item.{part, countedFrom, readAt, andThen, stringOf, plainOf, isKey, keyOfKind, byHead, keyOf, nextKeyOf, elementsOf, entriesOf, nestedOf, itemOf}
+use Rattle.cbor.specs.Item.{part, countedFrom, readAt, andThen, stringOf, checkedOf, textOf, plainOf, isKey, keyOfKind, byHead, keyOf, nextKeyOf, elementsOf, entriesOf, nestedOf, itemOf}
 use Rattle.cbor.specs.declared.head.Kind.{Kind}
 use Rattle.cbor.specs.declared.head.Kind.the-variants.{Unsigned, Negative, Bytes, Text, Array, Map, Simple}
 use Rattle.cbor.specs.declared.head.Head.{Head}
@@ -63,19 +64,27 @@ read-fits f t s at end e = go (f (drop at s)) (t (drop at s)) e
     go (Len k) w g = let h : at + k ≡ end = cc in (omega arith, omega (arith, length-drop at s))
     go (Fault p) w g = let z : _≡_ {A = ℕ} 0 1 = cc in absurd (omega arith)
 
-string-within : (v l : ℕ) (s : List ℕ) → 1 ≤ l → l ≤ length s → Within 1 (length s) (stringOf v l s)
+pub string-within : (v l : ℕ) (s : List ℕ) → l ≤ length s → Within l (length s) (stringOf v l s)
 unfolding stringOf
-string-within v l s g h = go (leb v (length s - l)) refl
+string-within v l s h = go (leb v (length s - l)) refl
   where
-    go : (t : Bool) → leb v (length s - l) ≡ t → Within 1 (length s) (if t then Len (l + v) else Fault 0)
+    go : (t : Bool) → leb v (length s - l) ≡ t → Within l (length s) (if t then Len (l + v) else Fault 0)
     go true e = let f : v ≤ length s - l = leb-true _ _ e in (omega arith, omega arith)
     go false e = omega arith
+
+text-within : (v l : ℕ) (s : List ℕ) → l ≤ length s → Within l (length s) (textOf v l s)
+unfolding textOf checkedOf
+text-within v l s h = then-within l l (length s) (stringOf v l s) _ (omega arith) (string-within v l s h) (λ end a i. go (utf8 (part s l end)) end i)
+  where
+    go : (t : Bool) (end : ℕ) → end ≤ length s → Within end (length s) (if t then Len end else Fault 0)
+    go true end i = (le-refl end, i)
+    go false end i = omega arith
 
 plain-within : (k : Kind) (v l : ℕ) (s : List ℕ) → 1 ≤ l → l ≤ length s → Within 1 (length s) (plainOf k v l s)
 plain-within Unsigned v l s g h = (g, h)
 plain-within Negative v l s g h = (g, h)
-plain-within Bytes v l s g h = string-within v l s g h
-plain-within Text v l s g h = string-within v l s g h
+plain-within Bytes v l s g h = earlier 1 l (length s) (stringOf v l s) g (string-within v l s h)
+plain-within Text v l s g h = earlier 1 l (length s) (textOf v l s) g (text-within v l s h)
 plain-within Array v l s g h = omega arith
 plain-within Map v l s g h = omega arith
 plain-within Simple v l s g h = (g, h)

@@ -8,5 +8,7 @@ mod Firsts
 mod Orders
 mod Alone
 mod ByteOrder
+mod Scalars
 mod Numbers
+mod Texts
 mod Readers

@@ -8,6 +8,7 @@ use lib.ListN.{length, take, drop}
 use lib.Dec.{leb}
 use Rattle.cbor.specs.Choice.{if_then_else_}
 use Rattle.cbor.specs.Head.{headOf}
+use Rattle.cbor.specs.Utf8.{utf8}
 use Rattle.cbor.specs.Order.{keyBefore}
 use Rattle.cbor.specs.declared.head.Kind.{Kind}
 use Rattle.cbor.specs.declared.head.Kind.the-variants.{Unsigned, Negative, Bytes, Text, Array, Map, Simple}
@@ -38,12 +39,19 @@ andThen (Fault p) g = Fault p
 unfoldable pub stringOf : ℕ → ℕ → List ℕ → Item
 stringOf v l s = if leb v (length s - l) then Len (l + v) else Fault 0
 
+-- A text string that stands from l up to end is UTF-8: else the fault is the item's.
+unfoldable pub checkedOf : ℕ → ℕ → List ℕ → Item
+checkedOf l end s = if utf8 (part s l end) then Len end else Fault 0
+
+unfoldable pub textOf : ℕ → ℕ → List ℕ → Item
+textOf v l s = andThen (stringOf v l s) (λ end. checkedOf l end s)
+
 -- An item that holds no other. An array or a map needs a level, even an empty one.
 abbrev pub plainOf : Kind → ℕ → ℕ → List ℕ → Item
 plainOf Unsigned v l s = Len l
 plainOf Negative v l s = Len l
 plainOf Bytes v l s = stringOf v l s
-plainOf Text v l s = stringOf v l s
+plainOf Text v l s = textOf v l s
 plainOf Array v l s = Fault 0
 plainOf Map v l s = Fault 0
 plainOf Simple v l s = Len l

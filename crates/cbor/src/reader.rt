@@ -5,12 +5,13 @@ ghost use mathlib.Core.Path.{_≡_};
 ghost use Prim.Native.Nat.{_≤_};
 ghost use mathlib.Core.List.{[]};
 ghost use lib.ListN.{length};
-ghost use Rattle.cbor.specs.Item.{part, stringOf, keyOf, nextKeyOf, elementsOf, entriesOf, itemOf};
+ghost use Rattle.cbor.specs.Item.{part, stringOf, checkedOf, textOf, keyOf, nextKeyOf, elementsOf, entriesOf, itemOf};
 ghost use Rattle.cbor.specs.Answer.{asNumber, KeyOrNone};
 use crate::head;
 use crate::head::Head;
 use crate::head::Kind;
 use crate::order;
+use crate::utf8;
 
 // No slice has as many bytes.
 pub(crate) const FAULT: usize = 0x8000_0000_0000_0000;
@@ -25,7 +26,7 @@ pub(crate) fn extent_by_head(msg: &[u8], levels: u8) -> usize
             Kind::Unsigned => l,
             Kind::Negative => l,
             Kind::Bytes => string(msg, v, l),
-            Kind::Text => string(msg, v, l),
+            Kind::Text => text(msg, v, l),
             Kind::Array => {
                 if levels == 0 {
                     return FAULT;
@@ -55,7 +56,13 @@ fn extent(msg: &[u8], levels: u8) -> usize
     if n == 0 {
         return extent_by_head(msg, levels);
     }
-    if n <= msg.len() { n } else { FAULT }
+    if msg.len() < n {
+        return FAULT;
+    }
+    if msg[0] / 32 == 3 {
+        return checked(msg, 1, n);
+    }
+    n
 }
 
 // A map's key: an integer, a byte or a text string, so an item that needs no level.
@@ -79,6 +86,30 @@ fn string(msg: &[u8], count: u64, start: usize) -> usize
     let n = count as usize;
     if n <= msg.len() - start {
         start + n
+    } else {
+        FAULT
+    }
+}
+
+// A text of count bytes from start.
+fn text(msg: &[u8], count: u64, start: usize) -> usize
+    requires { ⌜ start ≤ length (now msg) ⌝ }
+    ensures { λ r. ⌜ r ≡ asNumber (textOf count start (now (msg .entry))) ⌝ }
+{
+    let end = string(msg, count, start);
+    if end >= FAULT {
+        return end;
+    }
+    checked(msg, start, end)
+}
+
+// The end of a text that stands from start up to end, if it is UTF-8.
+fn checked(msg: &[u8], start: usize, end: usize) -> usize
+    requires { ⌜ (start ≤ end) × (end ≤ length (now msg)) ⌝ }
+    ensures { λ r. ⌜ r ≡ asNumber (checkedOf start end (now (msg .entry))) ⌝ }
+{
+    if utf8::is_utf8(&msg[start..end]) {
+        end
     } else {
         FAULT
     }

@@ -14,7 +14,7 @@ use Rattle.cbor.specs.Item.{part, keyOf, elementsOf, entriesOf, itemOf}
 use Rattle.cbor.specs.Answer.{asNumber, KeyOrNone}
 use Rattle.cbor.proofs.Items.{item-within, key-within, key-none, key-high, key-low}
 use Rattle.cbor.proofs.Numbers.{here, here-within, room}
-use Rattle.cbor.proofs.Readers.{bad, starts-within, plain, no-level, level, item-none, short-whole, short-cut, next-stop, read-is-key, next-is-key, next-good, next-late, elements-done, elements-step, elements-stop, entries-done, entries-step, entries-stop-key, entries-stop-value, value-within, no-part}
+use Rattle.cbor.proofs.Readers.{bad, starts-within, plain, no-level, level, item-none, short-cut, short-whole, short-text, next-stop, read-is-key, next-is-key, next-good, next-late, elements-done, elements-step, elements-stop, entries-done, entries-step, entries-stop-key, entries-stop-value, value-within, no-part}
 use Rattle.cbor.proofs.reader.elements.Reads as elements
 use Rattle.cbor.proofs.reader.elements.Kinds as elements-kinds
 use Rattle.cbor.proofs.reader.+elements+entries+extent+extent_by_head+key_extent+next_key.Lts-elements as elements-lts
@@ -37,6 +37,8 @@ use Rattle.cbor.proofs.order.key_before.Reads as key-before-reads
 use Rattle.cbor.proofs.head.read_head.Reads as read-head-reads
 use Rattle.cbor.proofs.head.short_length.Reads as short-length-reads
 use Rattle.cbor.proofs.reader.string.Reads as string-reads
+use Rattle.cbor.proofs.reader.text.Reads as text-reads
+use Rattle.cbor.proofs.reader.checked.Reads as checked-reads
 use Rattle.cbor.proofs.reader.+elements+entries+extent+extent_by_head+key_extent+next_key.{statement}
 use Rattle.cbor.proofs.reader.+elements+entries+extent+extent_by_head+key_extent+next_key.Tie.{close}
 
@@ -118,10 +120,10 @@ module _ (t : ℕ) where
   entries-calls = (next-key-below, next-key.Post, extent-below, extent.Post)
 
   abbrev extent-calls : extent-lts.Claims
-  extent-calls = (short-length-reads.Asked, short-length-reads.Learnt, extent-by-head-below, extent-by-head.Post)
+  extent-calls = (short-length-reads.Asked, short-length-reads.Learnt, extent-by-head-below, extent-by-head.Post, checked-reads.Asked, checked-reads.Learnt)
 
   abbrev extent-by-head-calls : extent-by-head-lts.Claims
-  extent-by-head-calls = (read-head-reads.Asked, read-head-reads.Learnt, string-reads.Asked, string-reads.Learnt, elements-below, elements.Post, entries-below, entries.Post)
+  extent-by-head-calls = (read-head-reads.Asked, read-head-reads.Learnt, string-reads.Asked, string-reads.Learnt, text-reads.Asked, text-reads.Learnt, elements-below, elements.Post, entries-below, entries.Post)
 
   abbrev key-extent-calls : key-extent-lts.Claims
   key-extent-calls = (extent-below, extent.Post)
@@ -190,16 +192,22 @@ module _ (t : ℕ) where
   extent-returns-2 c = c .extent-by-head .ensures
 
   extent-returns-3 : extent-lts.Need-returns-3 extent-calls extent-at extent.Post
-  extent-returns-3 c = short-whole _ _ _ (c .before .before .before .before .if1 .left) (c .before .if2 .left) (c .before .before .short-length .ensures) (c .if3 .taken)
+  extent-returns-3 c = short-cut _ _ _ (c .before .before .before .before .if1 .left) (c .before .if2 .left) (c .before .before .short-length .ensures) (c .if3 .taken)
+
+  extent-checked-requires : extent-lts.Need-checked-requires extent-calls extent-at extent.Post
+  extent-checked-requires c κs = (pos-of-ne-zero (c .before .before .before .if2 .left), omega arith)
 
   extent-returns-4 : extent-lts.Need-returns-4 extent-calls extent-at extent.Post
-  extent-returns-4 c = short-cut _ _ _ (c .before .before .before .before .if1 .left) (c .before .if2 .left) (c .before .before .short-length .ensures) (c .if3 .left)
+  extent-returns-4 c = c .checked .ensures ∙ ap asNumber (short-text _ _ _ (c .before .before .before .before .before .before .before .if1 .left) (c .before .before .before .before .if2 .left) (c .before .before .before .before .before .short-length .ensures) (c .before .before .before .if3 .left) (c .before .if4 .taken))
+
+  extent-returns-5 : extent-lts.Need-returns-5 extent-calls extent-at extent.Post
+  extent-returns-5 c = short-whole _ _ _ (c .before .before .before .before .before .before .if1 .left) (c .before .before .before .if2 .left) (c .before .before .before .before .short-length .ensures) (c .before .before .if3 .left) (c .if4 .left)
 
   extent-by-head-string-requires : extent-by-head-lts.Need-string-requires extent-by-head-calls extent-by-head-at extent-by-head.Post
   extent-by-head-string-requires c κs = starts-within _ (c .before .before .before .before .before .read-head .ensures) (c .before .before .before .head .given .1)
 
-  extent-by-head-string-requires-2 : extent-by-head-lts.Need-string-requires-2 extent-by-head-calls extent-by-head-at extent-by-head.Post
-  extent-by-head-string-requires-2 c κs = starts-within _ (c .before .before .before .before .before .read-head .ensures) (c .before .before .before .head .given .1)
+  extent-by-head-text-requires : extent-by-head-lts.Need-text-requires extent-by-head-calls extent-by-head-at extent-by-head.Post
+  extent-by-head-text-requires c κs = starts-within _ (c .before .before .before .before .before .read-head .ensures) (c .before .before .before .head .given .1)
 
   extent-by-head-returns : extent-by-head-lts.Need-returns extent-by-head-calls extent-by-head-at extent-by-head.Post
   extent-by-head-returns c = sym (ap asNumber (no-level _ _ (c .before .before .before .before .before .before .read-head .ensures) (c .before .before .before .before .head .given .1) (c .before .enum-told5 .given .1) (c .if1 .taken)))
@@ -223,7 +231,7 @@ module _ (t : ℕ) where
   extent-by-head-returns-5 c = c .string .ensures ∙ sym (ap asNumber (plain _ _ (c .before .before .before .before .before .before .read-head .ensures) (c .before .before .before .before .head .given .1) (c .before .enum-told3 .given .1) tt))
 
   extent-by-head-returns-6 : extent-by-head-lts.Need-returns-6 extent-by-head-calls extent-by-head-at extent-by-head.Post
-  extent-by-head-returns-6 c = c .string2 .ensures ∙ sym (ap asNumber (plain _ _ (c .before .before .before .before .before .before .read-head .ensures) (c .before .before .before .before .head .given .1) (c .before .enum-told4 .given .1) tt))
+  extent-by-head-returns-6 c = c .text .ensures ∙ sym (ap asNumber (plain _ _ (c .before .before .before .before .before .before .read-head .ensures) (c .before .before .before .before .head .given .1) (c .before .enum-told4 .given .1) tt))
 
   extent-by-head-returns-7 : extent-by-head-lts.Need-returns-7 extent-by-head-calls extent-by-head-at extent-by-head.Post
   extent-by-head-returns-7 c = c .elements .ensures ∙ sym (ap asNumber (level _ _ (c .before .before .before .before .before .before .before .read-head .ensures) (c .before .before .before .before .before .head .given .1) (c .before .before .enum-told5 .given .1) (c .before .if1 .left)))
@@ -300,7 +308,10 @@ pub +elements+entries+extent+extent-by-head+key-extent+next-key-spec : {M : Type
     (λ c κs. search needs)
     (extent-returns-2 t)
     (extent-returns-3 t)
-    (extent-returns-4 t))
+    (λ c. search needs)
+    (extent-checked-requires t)
+    (extent-returns-4 t)
+    (extent-returns-5 t))
     (λ t. extent-by-head-lts.spec (extent-by-head-calls t) (extent-by-head-at t) extent-by-head.Post
     (λ c κs. search needs)
     (λ c. search needs)
@@ -309,7 +320,7 @@ pub +elements+entries+extent+extent-by-head+key-extent+next-key-spec : {M : Type
     (λ c. search needs)
     (extent-by-head-string-requires t)
     (λ c. search needs)
-    (extent-by-head-string-requires-2 t)
+    (extent-by-head-text-requires t)
     (λ c. search needs)
     (extent-by-head-returns t)
     (λ c. search needs)

@@ -1,0 +1,286 @@
+-- How a text is read: the row that a first byte begins, what a sequence at the start leaves of a text, and what ASCII leaves of it.
+use Prim.Native.Nat.{ℕ, zero, suc, _+_, _-_, _≤_, _<_}
+use mathlib.Core.Path.{_≡_, refl, sym, ap, _∙_}
+use mathlib.Core.List.{List, [], _∷_}
+use mathlib.Core.Bool.{Bool, true, false, true≢false}
+use native.Mathlib.Omega.{arith}
+use native.Mathlib.Nat.{pos-of-ne-zero}
+use native.Mathlib.Numerals.{add-one}
+use lib.ListN.{length, getD, take, drop, length-drop, drop-of-length-le}
+use lib.Seq.{drop-cons, drop-drop}
+use lib.Bits.{bitOr, bitAnd, or-add-and, and-le-l, and-le-r, or-lt}
+use lib.Dec.{ltb, leb}
+use borrow.Author.Tests.{lt-ltb, le-ltb, ltb-true, ltb-false, le-leb, lt-leb}
+use Rattle.cbor.specs.Choice.{if_then_else_}
+use Rattle.cbor.specs.Bytes.{u8At}
+use Rattle.cbor.specs.Utf8.{Range, _to_, holds, Sequence, utf8Tail, utf8Char, begunBy, octetsAfter, utf8}
+use Rattle.cbor.specs.Item.{part}
+use Rattle.cbor.specs.Answer.{ascii, fits, lengthBy, sequenceOf, tailsOf}
+use Rattle.cbor.proofs.Items.{rest}
+
+pub within : (r : Range) (b : ℕ) → r .low ≤ b → b ≤ r .high → holds r b ≡ true
+within r b l h = rw (le-leb _ _ l) (le-leb _ _ h)
+
+above : (r : Range) (b : ℕ) → r .high < b → holds r b ≡ false
+above r b h = go (leb (r .low) b)
+  where
+    go : (t : Bool) → (if t then leb b (r .high) else false) ≡ false
+    go true = lt-leb _ _ h
+    go false = refl
+
+below : (r : Range) (b : ℕ) → b < r .low → holds r b ≡ false
+below r b h = rw (lt-leb _ _ h)
+
+-- The rows of the table ascend. The byte b begins row k, counted from 0: it is above the first k, and in that one.
+abbrev pub Begins : ℕ → ℕ → List Sequence → Type 0
+Begins b k [] = ⊥
+Begins b zero (row ∷ rows) = (row .first .low ≤ b) × (b ≤ row .first .high)
+Begins b (suc k) (row ∷ rows) = (row .first .high < b) × Begins b k rows
+
+-- It begins none: it is above the first k, and below the others.
+abbrev pub BeginsNone : ℕ → ℕ → List Sequence → Type 0
+BeginsNone b k [] = 0 ≤ b
+BeginsNone b zero (row ∷ rows) = (b < row .first .low) × BeginsNone b zero rows
+BeginsNone b (suc k) (row ∷ rows) = (row .first .high < b) × BeginsNone b k rows
+
+-- What follows the first byte in row k.
+abbrev pub othersAt : ℕ → List Sequence → List Range
+othersAt k [] = []
+othersAt zero (row ∷ rows) = row .others
+othersAt (suc k) (row ∷ rows) = othersAt k rows
+
+module _ {A : Type 0} (b : ℕ) (none : A) (g : List Range → A) where
+  pub row : (k : ℕ) (rows : List Sequence) → Begins b k rows → begunBy b none g rows ≡ g (othersAt k rows)
+  unfolding begunBy
+  row k [] h = absurd h
+  row zero (r ∷ rows) h = rw (within (r .first) b (h .0) (h .1))
+  row (suc k) (r ∷ rows) h = rw (above (r .first) b (h .0)) (row k rows (h .1))
+
+  pub no-row : (k : ℕ) (rows : List Sequence) → BeginsNone b k rows → begunBy b none g rows ≡ none
+  unfolding begunBy
+  no-row k [] h = refl
+  no-row zero (r ∷ rows) h = rw (below (r .first) b (h .0)) (no-row zero rows (h .1))
+  no-row (suc k) (r ∷ rows) h = rw (above (r .first) b (h .0)) (no-row k rows (h .1))
+
+-- The length r of a sequence, by the row that its first byte begins.
+pub by-row : (s : List ℕ) (k : ℕ) {r : ℕ} → r ≡ lengthBy (othersAt k utf8Char) (drop 1 s) → Begins (u8At s 0) k utf8Char → r ≡ sequenceOf s
+unfolding sequenceOf
+by-row s k e h = e ∙ sym (row (u8At s 0) 0 (λ others. lengthBy others (drop 1 s)) k utf8Char h)
+
+pub by-none : (s : List ℕ) (k : ℕ) → BeginsNone (u8At s 0) k utf8Char → 0 ≡ sequenceOf s
+unfolding sequenceOf
+by-none s k h = sym (no-row (u8At s 0) 0 (λ others. lengthBy others (drop 1 s)) k utf8Char h)
+
+pub one-byte : (s : List ℕ) → 1 ≡ lengthBy [] s
+unfolding lengthBy fits
+one-byte s = refl
+
+-- What is left of a text after its first byte and the n - 1 bytes behind it; where n is 0 there is no sequence.
+left : ℕ → List ℕ → Bool
+left zero s = false
+left (suc n) s = utf8 (drop n s)
+
+fits-left : (rs : List Range) (s : List ℕ) → octetsAfter rs s ≡ (if fits rs s then utf8 (drop (length rs) s) else false)
+unfolding fits octetsAfter utf8
+fits-left [] s = refl
+fits-left (r ∷ rs) [] = refl
+fits-left (r ∷ rs) (b ∷ s) = go (holds r b) (fits-left rs s)
+  where
+    go : (t : Bool) → octetsAfter rs s ≡ (if fits rs s then utf8 (drop (length rs) s) else false) → (if t then octetsAfter rs s else false) ≡ (if (if t then fits rs s else false) then utf8 (drop (length rs) s) else false)
+    go true e = e
+    go false e = refl
+
+fits-within : (rs : List Range) (s : List ℕ) → fits rs s ≡ true → length rs ≤ length s
+unfolding fits
+fits-within [] s e = omega arith
+fits-within (r ∷ rs) [] e = absurd (true≢false (sym e))
+fits-within (r ∷ rs) (b ∷ s) e = go (holds r b) (fits-within rs s) e
+  where
+    go : (t : Bool) → (fits rs s ≡ true → length rs ≤ length s) → (if t then fits rs s else false) ≡ true → suc (length rs) ≤ suc (length s)
+    go true f e = omega (arith, f e)
+    go false f e = absurd (true≢false (sym e))
+
+others-left : (rs : List Range) (s : List ℕ) → octetsAfter rs s ≡ left (lengthBy rs s) s
+unfolding lengthBy left
+others-left rs s = fits-left rs s ∙ go (fits rs s)
+  where
+    go : (t : Bool) → (if t then utf8 (drop (length rs) s) else false) ≡ left (if t then suc (length rs) else 0) s
+    go true = refl
+    go false = refl
+
+others-within : (rs : List Range) (s : List ℕ) → lengthBy rs s ≤ suc (length s)
+unfolding lengthBy
+others-within rs s = go (fits rs s) (fits-within rs s)
+  where
+    go : (t : Bool) → (t ≡ true → length rs ≤ length s) → (if t then suc (length rs) else 0) ≤ suc (length s)
+    go true f = omega (arith, f refl)
+    go false f = omega arith
+
+module _ (b : ℕ) (s : List ℕ) where
+  begun-left : (rows : List Sequence) → begunBy b false (λ others. octetsAfter others s) rows ≡ left (begunBy b 0 (λ others. lengthBy others s) rows) s
+  unfolding begunBy left
+  begun-left [] = refl
+  begun-left (r ∷ rows) = go (holds (r .first) b) (begun-left rows)
+    where
+      go : (t : Bool) → begunBy b false (λ others. octetsAfter others s) rows ≡ left (begunBy b 0 (λ others. lengthBy others s) rows) s → (if t then octetsAfter (r .others) s else begunBy b false (λ others. octetsAfter others s) rows) ≡ left (if t then lengthBy (r .others) s else begunBy b 0 (λ others. lengthBy others s) rows) s
+      go true e = others-left (r .others) s
+      go false e = e
+
+  begun-within : (rows : List Sequence) → begunBy b 0 (λ others. lengthBy others s) rows ≤ suc (length s)
+  unfolding begunBy
+  begun-within [] = omega arith
+  begun-within (r ∷ rows) = go (holds (r .first) b) (begun-within rows)
+    where
+      go : (t : Bool) → begunBy b 0 (λ others. lengthBy others s) rows ≤ suc (length s) → (if t then lengthBy (r .others) s else begunBy b 0 (λ others. lengthBy others s) rows) ≤ suc (length s)
+      go true e = others-within (r .others) s
+      go false e = e
+
+sequence-taken : (s : List ℕ) (n : ℕ) → 0 < length s → n ≡ sequenceOf s → 0 < n → (n ≤ length s) × (utf8 s ≡ utf8 (drop n s))
+unfolding sequenceOf utf8 octetsAfter left
+sequence-taken [] n h e p = absurd (omega arith)
+sequence-taken (b ∷ s) zero h e p = absurd (omega arith)
+sequence-taken (b ∷ s) (suc n) h e p = (omega (arith, begun-within b s utf8Char), begun-left b s utf8Char ∙ ap (λ (k : ℕ). left k s) (sym e))
+
+sequence-refused : (s : List ℕ) → 0 < length s → 0 ≡ sequenceOf s → utf8 s ≡ false
+unfolding sequenceOf utf8 octetsAfter left
+sequence-refused [] h e = absurd (omega arith)
+sequence-refused (b ∷ s) h e = begun-left b s utf8Char ∙ ap (λ (k : ℕ). left k s) (sym e)
+
+-- The sequence that a call on the part from `at` on found, said of the whole.
+module _ (s : List ℕ) (at : ℕ) {n : ℕ} (h : at < length s) (e : n ≡ sequenceOf (take (length s - at) (drop at s))) where
+  pub next-sequence : (n ≡ 0 → ⊥) → (at + n ≤ length s) × (utf8 (drop at s) ≡ utf8 (drop (at + n) s))
+  next-sequence p =
+      let w = sequence-taken (drop at s) n (omega (arith, length-drop at s)) (e ∙ ap sequenceOf (rest s at)) (pos-of-ne-zero p) in
+      (omega (arith, w .0, length-drop at s), w .1 ∙ ap utf8 (drop-drop n at s))
+
+  pub no-sequence : n ≡ 0 → utf8 (drop at s) ≡ false
+  no-sequence z = sequence-refused (drop at s) (omega (arith, length-drop at s)) (sym z ∙ e ∙ ap sequenceOf (rest s at))
+
+pub text-ends : (s : List ℕ) (at : ℕ) → length s ≤ at → utf8 (drop at s) ≡ true
+unfolding utf8 octetsAfter
+text-ends s at h = rw (drop-of-length-le s h)
+
+length-taken : (rs : List Range) (s : List ℕ) → fits rs s ≡ true → suc (length rs) ≡ lengthBy rs s
+unfolding lengthBy
+length-taken rs s f = rw f
+
+length-refused : (rs : List Range) (s : List ℕ) → fits rs s ≡ false → 0 ≡ lengthBy rs s
+unfolding lengthBy
+length-refused rs s f = rw f
+
+fits-on : (r : Range) (rs : List Range) (s : List ℕ) (i : ℕ) → i < length s → holds r (u8At s i) ≡ true → fits (r ∷ rs) (drop i s) ≡ fits rs (drop (i + 1) s)
+unfolding fits
+fits-on r rs s i h e = rw (add-one i, drop-cons s i 0 h, e)
+
+fits-off : (r : Range) (rs : List Range) (s : List ℕ) (i : ℕ) → i < length s → holds r (u8At s i) ≡ false → fits (r ∷ rs) (drop i s) ≡ false
+unfolding fits
+fits-off r rs s i h e = rw (drop-cons s i 0 h, e)
+
+tails-length : (n : ℕ) → length (tailsOf n) ≡ n
+tails-length zero = refl
+tails-length (suc n) = ap suc (tails-length n)
+
+-- A second byte from low to high, and so many tails.
+module _ (s : List ℕ) (low high tails : ℕ) where
+  pub too-short : length s < tails + 2 → 0 ≡ lengthBy (low to high ∷ tailsOf tails) (drop 1 s)
+  too-short h = go (fits (low to high ∷ tailsOf tails) (drop 1 s)) refl
+    where
+      go : (t : Bool) → fits (low to high ∷ tailsOf tails) (drop 1 s) ≡ t → 0 ≡ lengthBy (low to high ∷ tailsOf tails) (drop 1 s)
+      go true f = absurd (omega (arith, fits-within (low to high ∷ tailsOf tails) (drop 1 s) f, tails-length tails, length-drop 1 s))
+      go false f = length-refused (low to high ∷ tailsOf tails) (drop 1 s) f
+
+  pub second-off : 1 < length s → holds (low to high) (u8At s 1) ≡ false → 0 ≡ lengthBy (low to high ∷ tailsOf tails) (drop 1 s)
+  second-off h e = length-refused (low to high ∷ tailsOf tails) (drop 1 s) (fits-off (low to high) (tailsOf tails) s 1 h e)
+
+  -- The bytes up to i are of their ranges, so the others decide.
+  pub record UpTo (i : ℕ) : Type 0 where
+    pub others : fits (low to high ∷ tailsOf tails) (drop 1 s) ≡ fits (tailsOf (tails + 2 - i)) (drop i s)
+
+  pub second-on : 1 < length s → holds (low to high) (u8At s 1) ≡ true → UpTo 2
+  second-on h e =
+      let k : tails + 2 - 2 ≡ tails = omega arith in
+      record { others = fits-on (low to high) (tailsOf tails) s 1 h e ∙ ap (λ (n : ℕ). fits (tailsOf n) (drop 2 s)) (sym k) }
+
+module _ {s : List ℕ} {low high tails i : ℕ} (w : UpTo s low high tails i) where
+  pub all-on : tails + 2 ≤ i → tails + 2 ≡ lengthBy (low to high ∷ tailsOf tails) (drop 1 s)
+  unfolding fits
+  all-on h =
+      let k : tails + 2 - i ≡ 0 = omega arith in
+      let n : tails + 2 ≡ suc (suc (length (tailsOf tails))) = omega (arith, tails-length tails) in
+      n ∙ length-taken (low to high ∷ tailsOf tails) (drop 1 s) (w .others ∙ rw k)
+
+  module _ (h : i < tails + 2) (l : tails + 2 ≤ length s) where
+    next : tails + 2 - i ≡ suc (tails + 2 - (i + 1))
+    next = omega arith
+
+    pub tail-on : holds utf8Tail (u8At s i) ≡ true → UpTo s low high tails (i + 1)
+    tail-on e = record { others = w .others ∙ rw next (fits-on utf8Tail (tailsOf (tails + 2 - (i + 1))) s i (omega arith) e) }
+
+    pub tail-off : holds utf8Tail (u8At s i) ≡ false → 0 ≡ lengthBy (low to high ∷ tailsOf tails) (drop 1 s)
+    tail-off e = length-refused (low to high ∷ tailsOf tails) (drop 1 s) (w .others ∙ rw next (fits-off utf8Tail (tailsOf (tails + 2 - (i + 1))) s i (omega arith) e))
+
+-- Bytes that are joined are ASCII if each is.
+pub joined : (a b : ℕ) → ltb (bitOr a b) 0x80 ≡ (if ltb a 0x80 then ltb b 0x80 else false)
+joined a b = go (ltb a 0x80) (ltb b 0x80) refl refl
+  where
+    go : (x y : Bool) → ltb a 0x80 ≡ x → ltb b 0x80 ≡ y → ltb (bitOr a b) 0x80 ≡ (if x then y else false)
+    go true true p q = lt-ltb _ _ (or-lt 7 a b (ltb-true _ _ p) (ltb-true _ _ q))
+    go true false p q = le-ltb (bitOr a b) 0x80 (omega (arith, ltb-false b 0x80 q, or-add-and a b, and-le-l a b))
+    go false y p q = le-ltb (bitOr a b) 0x80 (omega (arith, ltb-false a 0x80 p, or-add-and a b, and-le-r a b))
+
+-- ASCII is a sequence for each byte.
+ascii-step : (n : ℕ) (s : List ℕ) → n ≤ length s → ascii (take n s) ≡ true → utf8 s ≡ utf8 (drop n s)
+unfolding ascii utf8 octetsAfter
+ascii-step zero s h e = refl
+ascii-step (suc n) [] h e = absurd (omega arith)
+ascii-step (suc n) (b ∷ s) h e = go (ltb b 0x80) refl e (ascii-step n s (omega arith))
+  where
+    go : (t : Bool) → ltb b 0x80 ≡ t → (if t then ascii (take n s) else false) ≡ true → (ascii (take n s) ≡ true → utf8 s ≡ utf8 (drop n s)) → utf8 (b ∷ s) ≡ utf8 (drop n s)
+    go true p f again = row b false (λ others. octetsAfter others s) 0 utf8Char (omega (arith, ltb-true b 0x80 p)) ∙ again f
+    go false p f again = absurd (true≢false (sym f))
+
+pub past-block : (s : List ℕ) (at n : ℕ) → at + n ≤ length s → ascii (part s at (at + n)) ≡ true → utf8 (drop at s) ≡ utf8 (drop (at + n) s)
+past-block s at n h e =
+    let i : at + n - at ≡ n = omega arith in
+    ascii-step n (drop at s) (omega (arith, length-drop at s)) (rw i at e) ∙ ap utf8 (drop-drop n at s)
+
+-- Where no block of one byte is left that is ASCII, a byte that is ASCII is passed.
+pub first-passed : (s : List ℕ) (start r : ℕ) → start < length s → u8At s start < 0x80 → start ≤ r → (r + 1 ≤ length s → ascii (part s r (r + 1)) ≡ false) → start < r
+unfolding ascii
+first-passed s start r h l g f = go (ltb start r) refl
+  where
+    one : ascii (part s start (start + 1)) ≡ true
+    one =
+        let i : start + 1 - start ≡ 1 = omega arith in
+        rw (i, drop-cons s start 0 h, lt-ltb _ _ l)
+
+    go : (t : Bool) → ltb start r ≡ t → start < r
+    go true e = ltb-true _ _ e
+    go false e =
+        let i : r ≡ start = omega (arith, ltb-false start r e) in
+        absurd (true≢false (sym one ∙ (rw i at f) (omega arith)))
+
+-- What is joined of a block's bytes up to i, and the bytes from there to its end, say together whether the block is ASCII.
+pub record Joined (s : List ℕ) (start end all i : ℕ) : Type 0 where
+  pub block : ascii (part s start end) ≡ (if ltb all 0x80 then ascii (part s i end) else false)
+
+module _ {s : List ℕ} {start end all i : ℕ} (w : Joined s start end all i) where
+  pub join-next : i < end → end ≤ length s → Joined s start end (bitOr all (u8At s i)) (i + 1)
+  unfolding ascii
+  join-next h l =
+      let k : end - i ≡ suc (end - (i + 1)) = omega arith in
+      record { block = w .block ∙ rw (joined all (u8At s i), k, drop-cons s i 0 (omega arith), add-one i) (go (ltb all 0x80)) }
+    where
+      go : (x : Bool) → _≡_ {A = Bool} (if x then (if ltb (u8At s i) 0x80 then ascii (take (end - suc i) (drop (suc i) s)) else false) else false) (if (if x then ltb (u8At s i) 0x80 else false) then ascii (take (end - suc i) (drop (suc i) s)) else false)
+      go true = refl
+      go false = refl
+
+  pub join-end : end ≤ i → ltb all 0x80 ≡ ascii (part s start end)
+  unfolding ascii
+  join-end h =
+      let k : end - i ≡ 0 = omega arith in
+      sym (w .block ∙ rw k (go (ltb all 0x80)))
+    where
+      go : (x : Bool) → (if x then true else false) ≡ x
+      go true = refl
+      go false = refl
