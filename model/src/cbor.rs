@@ -1,5 +1,5 @@
 //! The canonical form of CBOR items (document 01, "CBOR commands"; RFC 7049; X.1278 for
-//! the order of keys).
+//! the order of keys; RFC 3629 for text).
 //!
 //! A [`Reader`] goes over the bytes once, from left to right. What a caller wants to know of an
 //! item it learns while the item is read: [`Reader::array`] and [`Reader::map`] hand each entry
@@ -169,16 +169,15 @@ impl<'a> Reader<'a> {
         Ok(&self.bytes[start..self.at])
     }
 
-    /// Passes over the content of a byte or text string.
+    /// Passes over the content of a byte string, or of a text string, which is UTF-8.
     fn string(&mut self, head: Head) -> Result<(), Breach> {
-        let left = self.bytes.len() - self.at;
-        match usize::try_from(head.argument) {
-            Ok(length) if length <= left => {
-                self.at += length;
-                Ok(())
-            }
-            _ => Err(Breach),
+        let length = usize::try_from(head.argument).map_err(|_| Breach)?;
+        let content = self.bytes[self.at..].get(..length).ok_or(Breach)?;
+        if head.kind == Kind::Text && std::str::from_utf8(content).is_err() {
+            return Err(Breach);
         }
+        self.at += length;
+        Ok(())
     }
 
     /// Reads the number, length or count of a head, which has the shortest form.
@@ -259,6 +258,47 @@ mod tests {
         for first in 0xF4..=0xF7 {
             assert_eq!(item_length(&[first], 0), Ok(1));
         }
+    }
+
+    /// Whether a string with this content, of a few bytes, is taken as a value and as a key.
+    fn taken(major: u8, content: &[u8]) -> [bool; 2] {
+        let string = [&[major << 5 | content.len() as u8], content].concat();
+        let map = [&[0xA1], &string[..], &[0x00]].concat();
+        [&string, &map].map(|item| item_length(item, 1) == Ok(item.len()))
+    }
+
+    #[test]
+    fn text_is_utf_8() {
+        // the first and the last sequence of each row of RFC 3629's table
+        for text in [
+            &[0x00, 0x7F][..],
+            &[0xC2, 0x80, 0xDF, 0xBF],
+            &[0xE0, 0xA0, 0x80, 0xE0, 0xBF, 0xBF],
+            &[0xE1, 0x80, 0x80, 0xEC, 0xBF, 0xBF],
+            &[0xED, 0x80, 0x80, 0xED, 0x9F, 0xBF],
+            &[0xEE, 0x80, 0x80, 0xEF, 0xBF, 0xBF],
+            &[0xF0, 0x90, 0x80, 0x80, 0xF0, 0xBF, 0xBF, 0xBF],
+            &[0xF1, 0x80, 0x80, 0x80, 0xF3, 0xBF, 0xBF, 0xBF],
+            &[0xF4, 0x80, 0x80, 0x80, 0xF4, 0x8F, 0xBF, 0xBF],
+        ] {
+            assert_eq!(taken(3, text), [true; 2], "{text:02x?}");
+        }
+        for text in [
+            &[0x80][..],               // begins with a tail
+            &[0xC0, 0x80],             // overlong
+            &[0xE0, 0x9F, 0xBF],       // overlong
+            &[0xF0, 0x8F, 0xBF, 0xBF], // overlong
+            &[0xED, 0xA0, 0x80],       // a surrogate
+            &[0xF4, 0x90, 0x80, 0x80], // above 10FFFF
+            &[b'a', 0xE2, 0x82],       // cut by the text's end
+            &[0xE2, 0x82, b'a'],       // cut by a letter
+        ] {
+            assert_eq!(taken(3, text), [false; 2], "{text:02x?}");
+            assert_eq!(taken(2, text), [true; 2], "{text:02x?}");
+        }
+        // an empty array stands where the text's last sequence would go on
+        let text_then_array = [0x82, 0x61, 0xC3, 0x80];
+        assert_eq!(item_length(&text_then_array, LEVELS), Err(Breach));
     }
 
     #[test]

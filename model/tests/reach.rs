@@ -42,7 +42,7 @@ const WHILE_HELD: [&str; 4] = [
 ];
 
 /// The rest of the tables, and the checking and reading of commands and items.
-const ONCE: [&str; 58] = [
+const ONCE: [&str; 62] = [
     "idle given INIT: error 03",
     "idle given INIT: INIT reply",
     "idle given another command: error 01",
@@ -101,6 +101,10 @@ const ONCE: [&str; 58] = [
     "check: status 26",
     "check: good",
     "check: good hash",
+    "item: item",
+    "item: status 12",
+    "text: item",
+    "text: status 12",
 ];
 
 #[test]
@@ -116,7 +120,6 @@ fn every_row_comes_up() {
     for phase in ["gathering", "waiting", "answering"] {
         expected.extend(WHILE_HELD.map(|case| format!("{phase} {case}")));
     }
-    expected.extend(["item: item", "item: status 12"].map(String::from));
     expected.retain(|case| !tally.0.contains_key(case));
     assert!(expected.is_empty(), "no script reaches {expected:#?}");
 }

@@ -198,7 +198,7 @@ fn parameter_fault(random: &mut Random, entries: &mut Entries) {
             let major = random.pick(&[BYTES, BYTES, BYTES, TEXT]);
             for (_, value) in entries.iter_mut() {
                 if matches!(value, Tree::String(BYTES, hash) if hash.len() == 32) {
-                    *value = Tree::String(major, random.bytes(length));
+                    *value = item::string(random, major, length);
                     break;
                 }
             }
@@ -252,7 +252,6 @@ fn pad(random: &mut Random, entries: &mut Entries, size: usize) {
         room => room - 3,
     };
     let major = random.pick(&[BYTES, TEXT]);
-    let content = (0..length).map(|_| b'a' + random.below(26) as u8).collect();
-    entries.push((key, Tree::String(major, content)));
+    entries.push((key, item::string(random, major, length)));
     *entries = item::in_order(std::mem::take(entries));
 }

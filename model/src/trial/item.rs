@@ -1,6 +1,7 @@
 //! Random CBOR items, canonical ones and damaged ones.
 
 use super::random::Random;
+use super::text;
 use crate::cbor::key_order;
 
 /// Major types.
@@ -124,19 +125,26 @@ fn string_length(random: &mut Random) -> usize {
     }
 }
 
-/// Text is mostly letters, now and then of several bytes a letter or no UTF-8 at all.
-fn text(random: &mut Random) -> Vec<u8> {
-    let mut text = Vec::new();
-    for _ in 0..string_length(random) {
-        match random.below(40) {
-            0 => text.extend_from_slice("é".as_bytes()),
-            1 => text.extend_from_slice("€".as_bytes()),
-            2 => text.extend_from_slice("😀".as_bytes()),
-            3 if random.once_in(8) => text.push(random.number() as u8),
-            _ => text.push(b'a' + random.below(26) as u8),
-        }
+/// Text is often long enough for a reader that takes several bytes at a time.
+fn text_length(random: &mut Random) -> usize {
+    match random.below(4) {
+        0 => random.below(60),
+        _ => string_length(random),
     }
-    text
+}
+
+/// A byte or text string with a content of this many bytes.
+pub fn string(random: &mut Random, major: u8, length: usize) -> Tree {
+    Tree::String(major, content(random, major, length))
+}
+
+/// The content of a byte string is any bytes, that of a text string is good text.
+fn content(random: &mut Random, major: u8, length: usize) -> Vec<u8> {
+    if major == TEXT {
+        text::good(random, length).into_bytes()
+    } else {
+        random.bytes(length)
+    }
 }
 
 /// A key of one of the kinds that keys have.
@@ -146,9 +154,12 @@ pub fn key(random: &mut Random) -> Tree {
         1 => Tree::Number(NEGATIVE, number(random)),
         2 => {
             let length = string_length(random);
-            Tree::bytes(random.bytes(length))
+            string(random, BYTES, length)
         }
-        _ => Tree::String(TEXT, text(random)),
+        _ => {
+            let length = text_length(random);
+            string(random, TEXT, length)
+        }
     }
 }
 
@@ -206,28 +217,8 @@ pub fn nested(random: &mut Random, depth: usize) -> Tree {
 /// The bytes of an item that breaks the canonical form by itself.
 pub fn breach(random: &mut Random) -> Tree {
     let mut out = Vec::new();
-    match random.below(7) {
-        // a form longer than needed
-        0 | 1 => {
-            let major = random.below(6) as u8;
-            let (form, argument) = random.pick(&[
-                (1, 0),
-                (1, 6),
-                (1, 23),
-                (2, 24),
-                (2, 255),
-                (4, 256),
-                (4, 0xFFFF),
-                (8, 0x1_0000),
-                (8, 0xFFFF_FFFF),
-                (8, 0),
-            ]);
-            head_of_form(major, argument, form, &mut out);
-            if major == BYTES || major == TEXT {
-                let length = argument.min(300) as usize;
-                out.extend_from_slice(&random.bytes(length));
-            }
-        }
+    match random.below(9) {
+        0 | 1 => longer_form(random, &mut out),
         // a length or count that no message holds
         2 => {
             let major = random.below(4) as u8 + BYTES;
@@ -267,9 +258,38 @@ pub fn breach(random: &mut Random) -> Tree {
             out.extend_from_slice(&random.bytes(content));
         }
         // a head that RFC 7049 leaves unassigned
-        _ => out.push((random.below(8) as u8) << 5 | random.pick(&[28, 29, 30])),
+        6 => out.push((random.below(8) as u8) << 5 | random.pick(&[28, 29, 30])),
+        7 => Tree::String(TEXT, text::bad(random)).encode(&mut out),
+        // a text that ends inside a character; the rest follows, as an array's or a map's head can
+        _ => {
+            let (text, missing) = text::cut(random);
+            Tree::String(TEXT, text).encode(&mut out);
+            out.extend_from_slice(&missing);
+        }
     }
     Tree::Raw(out)
+}
+
+/// Writes an item whose head is longer than needed.
+fn longer_form(random: &mut Random, out: &mut Vec<u8>) {
+    let major = random.below(6) as u8;
+    let (form, argument) = random.pick(&[
+        (1, 0),
+        (1, 6),
+        (1, 23),
+        (2, 24),
+        (2, 255),
+        (4, 256),
+        (4, 0xFFFF),
+        (8, 0x1_0000),
+        (8, 0xFFFF_FFFF),
+        (8, 0),
+    ]);
+    head_of_form(major, argument, form, out);
+    if major == BYTES || major == TEXT {
+        let length = argument.min(300) as usize;
+        out.extend_from_slice(&content(random, major, length));
+    }
 }
 
 /// Puts a breach of the canonical form somewhere into a tree: a bad item, a key of another kind, or

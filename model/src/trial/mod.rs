@@ -16,6 +16,7 @@ pub mod script;
 pub mod shrink;
 mod states;
 pub mod tally;
+pub mod text;
 pub mod writer;
 
 /// Message lengths around which packets are added.

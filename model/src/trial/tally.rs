@@ -2,6 +2,7 @@
 
 use std::collections::BTreeMap;
 
+use crate::cbor::item_length;
 use crate::key::{Key, Transaction};
 use crate::line::Line;
 use crate::packet::{Packet, BROADCAST, CANCEL, CBOR, INIT, PACKET, PING};
@@ -22,6 +23,7 @@ impl Tally {
             Line::Deliver(..) => "deliver".to_string(),
             Line::Fetch => "fetch".to_string(),
             Line::Check(_) => "check".to_string(),
+            Line::Item(_, bytes) if is_whole_text(bytes) => "text".to_string(),
             Line::Item(..) => "item".to_string(),
             _ => return,
         };
@@ -76,6 +78,18 @@ fn packet_case(key: &Key, packet: &[u8; PACKET]) -> String {
         "given"
     };
     format!("{who} {what}")
+}
+
+/// Whether the bytes begin with a text that would be taken as a byte string, so that its
+/// characters alone decide.
+fn is_whole_text(bytes: &[u8]) -> bool {
+    match *bytes {
+        [first @ 0x60..=0x7B, ref rest @ ..] => {
+            let byte_string = [&[first - 0x20], rest].concat();
+            item_length(&byte_string, 0).is_ok()
+        }
+        _ => false,
+    }
 }
 
 /// The answer without what differs from case to case.
