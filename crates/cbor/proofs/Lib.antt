@@ -10,5 +10,6 @@ mod Alone
 mod ByteOrder
 mod Scalars
 mod Numbers
-mod Texts
+mod Sequences
+mod Ascii
 mod Readers

@@ -12,7 +12,6 @@ use lib.Dec.{leb}
 use borrow.Author.Tests.{leb-true, leb-false, le-leb, lt-leb}
 use Rattle.cbor.specs.Choice.{if_then_else_}
 use Rattle.cbor.specs.Head.{firstOf, headAfter, headOf}
-use Rattle.cbor.specs.Utf8.{utf8}
 use Rattle.cbor.specs.Order.{keyBefore}
 use Rattle.cbor.specs.Item.{part, readAt, andThen, stringOf, checkedOf, textOf, plainOf, byHead, keyOf, Key, nextKeyOf, elementsOf, entriesOf, nestedOf, itemOf}
 use Rattle.cbor.specs.Answer.{faultBase, asNumber, shortLengthBy, shortLengthOf}

@@ -7,13 +7,13 @@ use mathlib.Core.Bool.{Bool, true, false, true≢false}
 use native.Mathlib.Omega.{arith}
 use lib.ListN.{length, drop}
 use lib.Dec.{ltb, leb}
-use borrow.Author.Tests.{lt-ltb, le-ltb, ltb-true, ltb-false, le-leb, lt-leb, leb-true, leb-false}
+use borrow.Author.Tests.{lt-ltb, le-ltb, ltb-true, ltb-false, le-leb, lt-leb, leb-true}
 use Rattle.cbor.specs.Choice.{if_then_else_}
 use Rattle.cbor.specs.Bytes.{u8At}
-use Rattle.cbor.specs.Utf8.{Range, _to_, holds, utf8Tail, utf8Char, begunBy, octetsAfter, utf8}
+use Rattle.cbor.specs.Utf8.{Range, _to_, utf8Tail, utf8Char, octetsAfter, utf8}
 use Rattle.cbor.specs.Scalars.{Scalar, Scalars, encoded, encoding, Encodes}
 use Rattle.cbor.specs.Theorems.{ScalarValues, OneReading}
-use Rattle.cbor.proofs.Texts.{Begins, BeginsNone, othersAt, within, row, no-row}
+use Rattle.cbor.proofs.Sequences.{Begins, BeginsNone, othersAt, within, row, no-row}
 
 -- A number is below another or not.
 below-or : {A : Type 0} (b n : ℕ) → (b < n → A) → (n ≤ b → A) → A

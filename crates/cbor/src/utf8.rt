@@ -1,4 +1,4 @@
-// Text is UTF-8, by the table of RFC 3629, section 4. It is read once, from its first byte to its last.
+// Text is UTF-8, by the table of RFC 3629, section 4. It is read from its first byte to its last, a sequence or a run of ASCII at a time.
 ghost use mathlib.Core.Path.{_≡_};
 ghost use Prim.Native.Nat.{_+_, _≤_, _<_};
 ghost use mathlib.Core.Bool.{false};
@@ -7,7 +7,7 @@ ghost use lib.ListN.{length, drop};
 ghost use Rattle.cbor.specs.Bytes.{u8At};
 ghost use Rattle.cbor.specs.Utf8.{_to_, holds, utf8};
 ghost use Rattle.cbor.specs.Item.{part};
-ghost use Rattle.cbor.specs.Answer.{ascii, AsciiUpTo, sequenceOf, lengthBy, tailsOf};
+ghost use Rattle.cbor.specs.Steps.{lengthBy, sequenceOf, tailsOf, ascii, AsciiUpTo};
 
 // Whether the bytes are UTF-8.
 pub(crate) fn is_utf8(s: &[u8]) -> bool
@@ -28,15 +28,20 @@ pub(crate) fn is_utf8(s: &[u8]) -> bool
     true
 }
 
-// Where the ASCII ends that begins at start. Most of it goes by blocks, which the compiler turns into a few loads and one test.
+// Where the ASCII ends that begins at start. It goes by blocks, which the compiler turns into a few loads and one test; but a space between
+// words of other letters is alone, and is not worth a block.
 fn past_ascii(s: &[u8], start: usize) -> usize
     requires { ⌜ (start < length (now s)) × (u8At (now s) start < 0x80) ⌝ }
     ensures { λ r. ⌜ AsciiUpTo (now (s .entry)) start r × (start < r) ⌝ }
 {
-    past_blocks(s, past_blocks(s, past_blocks(s, start, 64), 8), 1)
+    let next = start + 1;
+    if next < s.len() && s[next] < 0x80 {
+        return past_blocks(s, past_blocks(s, past_blocks(s, start, 64), 8), 1);
+    }
+    next
 }
 
-// Where no block of this size is left, or one begins that is not all ASCII.
+// Past every block of this size that is ASCII, up to one that is not or is not whole.
 fn past_blocks(s: &[u8], start: usize, size: usize) -> usize
     requires { ⌜ (start ≤ length (now s)) × (0 < size) ⌝ }
     ensures { λ r. ⌜ AsciiUpTo (now (s .entry)) start r × (r + size ≤ length (now (s .entry)) → ascii (part (now (s .entry)) r (r + size)) ≡ false) ⌝ }
@@ -51,7 +56,7 @@ fn past_blocks(s: &[u8], start: usize, size: usize) -> usize
     at
 }
 
-// Whether the bytes from start up to end are ASCII. They are joined without a test of each.
+// Whether the bytes from start up to end are ASCII. They are joined, so that one test is enough for all.
 fn is_ascii(s: &[u8], start: usize, end: usize) -> bool
     requires { ⌜ (start ≤ end) × (end ≤ length (now s)) ⌝ }
     ensures { λ r. ⌜ r ≡ ascii (part (now (s .entry)) start end) ⌝ }
@@ -91,7 +96,7 @@ fn followed(s: &[u8], low: u8, high: u8, tails: usize) -> usize
 {
     let n = tails + 2;
     if s.len() < n {
-        return 0;
+        return 0; // cut short
     }
     if !within(low, high, s[1]) {
         return 0;

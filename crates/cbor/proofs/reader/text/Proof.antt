@@ -2,7 +2,7 @@
 use mathlib.Core.Path.{sym, ap, _∙_}
 use native.Mathlib.Omega.{arith}
 use borrow.Author.Needs.{needs}
-use Rattle.cbor.specs.Item.{stringOf, checkedOf, textOf}
+use Rattle.cbor.specs.Item.{stringOf, textOf}
 use Rattle.cbor.specs.Answer.{asNumber}
 use Rattle.cbor.proofs.Items.{string-within}
 use Rattle.cbor.proofs.Numbers.{goes-on, decides, ends}

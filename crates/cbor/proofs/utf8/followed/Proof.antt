@@ -4,7 +4,7 @@ use mathlib.Core.Path.{sym, _∙_}
 use native.Mathlib.Omega.{arith}
 use borrow.Author.Needs.{needs}
 use borrow.Author.Tests.{not-true, not-false}
-use Rattle.cbor.proofs.Texts.{UpTo, too-short, second-on, second-off, tail-on, tail-off, all-on}
+use Rattle.cbor.proofs.Sequences.{UpTo, too-short, second-on, second-off, tail-on, tail-off, all-on}
 use Rattle.cbor.proofs.utf8.followed.Statement.{statement}
 use Rattle.cbor.proofs.utf8.followed.Tie as tie
 

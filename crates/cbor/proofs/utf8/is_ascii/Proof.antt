@@ -3,7 +3,7 @@ use Prim.Native.Nat.{_-_, _≤_}
 use mathlib.Core.Path.{refl}
 use native.Mathlib.Omega.{arith}
 use borrow.Author.Needs.{needs}
-use Rattle.cbor.proofs.Texts.{Joined, join-next, join-end}
+use Rattle.cbor.proofs.Ascii.{Joined, join-next, join-end}
 use Rattle.cbor.proofs.utf8.is_ascii.Statement.{statement}
 use Rattle.cbor.proofs.utf8.is_ascii.Tie as tie
 

@@ -6,7 +6,7 @@ use native.Mathlib.Nat.{pos-of-ne-zero}
 use lib.ListN.{length, drop}
 use borrow.Author.Needs.{needs}
 use Rattle.cbor.specs.Utf8.{utf8}
-use Rattle.cbor.proofs.Texts.{next-sequence, no-sequence, text-ends}
+use Rattle.cbor.proofs.Sequences.{next-sequence, no-sequence, text-ends}
 use Rattle.cbor.proofs.utf8.is_utf8.Statement.{statement}
 use Rattle.cbor.proofs.utf8.is_utf8.Tie as tie
 

@@ -1,12 +1,12 @@
 -- Each block that is passed leaves the text what it was.
-use Prim.Native.Nat.{_-_, _≤_}
-use mathlib.Core.Path.{_≡_, refl, sym, _∙_}
+use Prim.Native.Nat.{_-_}
+use mathlib.Core.Path.{refl, sym, _∙_}
 use native.Mathlib.Omega.{arith}
 use lib.ListN.{length}
 use borrow.Author.Needs.{needs}
 use borrow.Author.Tests.{not-true, not-false}
-use Rattle.cbor.specs.Answer.{AsciiUpTo}
-use Rattle.cbor.proofs.Texts.{past-block}
+use Rattle.cbor.specs.Steps.{AsciiUpTo}
+use Rattle.cbor.proofs.Ascii.{past-block}
 use Rattle.cbor.proofs.utf8.past_blocks.Statement.{statement}
 use Rattle.cbor.proofs.utf8.past_blocks.Tie as tie
 
