@@ -112,6 +112,21 @@ fn every_sequence_at_every_offset() {
 }
 
 #[test]
+fn every_offset_in_a_long_text() {
+    let mut lines = Vec::new();
+    for length in [63, 64, 65, 127, 128, 129, 200] {
+        for sequence in [&b"\x80"[..], b"\xFF", b"\xE2\x82", "é".as_bytes()] {
+            for at in 0..=length - sequence.len() {
+                let mut content = vec![b'a'; length];
+                content[at..][..sequence.len()].copy_from_slice(sequence);
+                lines.push(item(&text(&content)));
+            }
+        }
+    }
+    agree(lines);
+}
+
+#[test]
 fn every_end_of_a_text_before_what_would_go_on_with_it() {
     // heads of arrays and maps look like the rest of a sequence
     let nexts = [

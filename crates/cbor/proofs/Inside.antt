@@ -10,7 +10,7 @@ use lib.Seq.{drop-drop}
 use lib.Dec.{leb}
 use Rattle.cbor.specs.Choice.{if_then_else_}
 use Rattle.cbor.specs.Head.{headOf}
-use Rattle.cbor.specs.Utf8.{utf8}
+use Rattle.cbor.specs.Text.{utf8}
 use Rattle.cbor.specs.Order.{keyBefore}
 use Rattle.cbor.specs.Item.{part, countedFrom, readAt, andThen, stringOf, checkedOf, textOf, byHead, keyOf, nextKeyOf, elementsOf, entriesOf, itemOf}
 use Rattle.cbor.specs.declared.head.Kind.the-variants.{Array, Map}

@@ -8,8 +8,5 @@ mod Firsts
 mod Orders
 mod Alone
 mod ByteOrder
-mod Scalars
 mod Numbers
-mod Sequences
-mod Ascii
 mod Readers

@@ -95,16 +95,16 @@ short-string i r s h e = go (leb r (length s)) refl
     go false g = rw (lt-leb i (length s - 1) (omega (arith, leb-false r (length s) g)))
 
 -- A short item that is whole: a text is UTF-8 besides.
-abbrev WholeOf : Kind → ℕ → List ℕ → Item
-WholeOf Unsigned r s = Len r
-WholeOf Negative r s = Len r
-WholeOf Bytes r s = Len r
-WholeOf Text r s = checkedOf 1 r s
-WholeOf Array r s = Len r
-WholeOf Map r s = Len r
-WholeOf Simple r s = Len r
+abbrev wholeOf : Kind → ℕ → List ℕ → Item
+wholeOf Unsigned r s = Len r
+wholeOf Negative r s = Len r
+wholeOf Bytes r s = Len r
+wholeOf Text r s = checkedOf 1 r s
+wholeOf Array r s = Len r
+wholeOf Map r s = Len r
+wholeOf Simple r s = Len r
 
-short-plain : (k : Kind) (i r : ℕ) (s : List ℕ) → 0 < length s → 0 < r → r ≡ shortLengthBy k i → plainOf k i 1 s ≡ (if leb r (length s) then WholeOf k r s else Fault 0)
+short-plain : (k : Kind) (i r : ℕ) (s : List ℕ) → 0 < length s → 0 < r → r ≡ shortLengthBy k i → plainOf k i 1 s ≡ (if leb r (length s) then wholeOf k r s else Fault 0)
 unfolding textOf andThen
 short-plain Unsigned i r s h g e = rw (le-leb r (length s) (omega arith), e)
 short-plain Negative i r s h g e = rw (le-leb r (length s) (omega arith), e)
@@ -128,7 +128,7 @@ short-kind Map i r g e = absurd (omega arith)
 short-kind Simple i r g e = tt
 
 module _ (levels r : ℕ) (s : List ℕ) (n : length s ≡ 0 → ⊥) (g : r ≡ 0 → ⊥) (e : 0 < r → r ≡ shortLengthOf (firstOf (getD s 0 0))) where
-  short : (Q : Item → Type 0) → ((k : Kind) (i : ℕ) → headOf s ≡ Of k i 1 → Q (if leb r (length s) then WholeOf k r s else Fault 0)) → Q (itemOf levels s)
+  short : (Q : Item → Type 0) → ((k : Kind) (i : ℕ) → headOf s ≡ Of k i 1 → Q (if leb r (length s) then wholeOf k r s else Fault 0)) → Q (itemOf levels s)
   unfolding headAfter
   short Q w = go (firstOf (getD s 0 0)) (head-some s n) (e (pos-of-ne-zero g))
     where
@@ -144,7 +144,7 @@ module _ (levels r : ℕ) (s : List ℕ) (n : length s ≡ 0 → ⊥) (g : r ≡
   pub short-whole : r ≤ length s → (getD s 0 0 / 32 ≡ 3 → ⊥) → r ≡ asNumber (itemOf levels s)
   short-whole l t = short (λ x. r ≡ asNumber x) (λ k i h. rw (le-leb r (length s) l) (go k (shape s h)))
     where
-      go : (k : Kind) {i : ℕ} → Shape (getD s 0 0) s k i 1 → r ≡ asNumber (WholeOf k r s)
+      go : (k : Kind) {i : ℕ} → Shape (getD s 0 0) s k i 1 → r ≡ asNumber (wholeOf k r s)
       go Unsigned w = refl
       go Negative w = refl
       go Bytes w = refl

@@ -4,11 +4,12 @@ use Prim.Native.Nat.{ℕ, zero, suc, _+_, _-_}
 use mathlib.Core.Path.{_≡_}
 use mathlib.Core.List.{List, []}
 use mathlib.Core.Bool.{Bool, true, false}
-use lib.ListN.{length, take, drop}
+use lib.ListN.{length, drop}
 use lib.Dec.{leb}
+pub use Rattle.utf8.specs.Parts.{part}
 use Rattle.cbor.specs.Choice.{if_then_else_}
 use Rattle.cbor.specs.Head.{headOf}
-use Rattle.cbor.specs.Utf8.{utf8}
+use Rattle.cbor.specs.Text.{utf8}
 use Rattle.cbor.specs.Order.{keyBefore}
 use Rattle.cbor.specs.declared.head.Kind.{Kind}
 use Rattle.cbor.specs.declared.head.Kind.the-variants.{Unsigned, Negative, Bytes, Text, Array, Map, Simple}
@@ -16,10 +17,6 @@ use Rattle.cbor.specs.declared.head.Head.{Head}
 use Rattle.cbor.specs.declared.head.Head.the-variants.{Of, Bad}
 use Rattle.cbor.specs.declared.Item.{Item}
 use Rattle.cbor.specs.declared.Item.the-variants.{Len, Fault}
-
--- The bytes from a up to, not including, e.
-abbrev pub part : List ℕ → ℕ → ℕ → List ℕ
-part s a e = take (e - a) (drop a s)
 
 -- What was found in the part that begins at `at`, counted from the start of the whole.
 unfoldable pub countedFrom : ℕ → Item → Item
@@ -39,10 +36,11 @@ andThen (Fault p) g = Fault p
 unfoldable pub stringOf : ℕ → ℕ → List ℕ → Item
 stringOf v l s = if leb v (length s - l) then Len (l + v) else Fault 0
 
--- A text string that stands from l up to end is UTF-8: else the fault is the item's.
+-- The content of a text, which stands from l up to end, is UTF-8.
 unfoldable pub checkedOf : ℕ → ℕ → List ℕ → Item
 checkedOf l end s = if utf8 (part s l end) then Len end else Fault 0
 
+-- A text is a string that is UTF-8. The fault of one that is not is the item's.
 unfoldable pub textOf : ℕ → ℕ → List ℕ → Item
 textOf v l s = andThen (stringOf v l s) (λ end. checkedOf l end s)
 

@@ -8,7 +8,6 @@ mod bytes;
 mod head;
 mod order;
 mod reader;
-mod utf8;
 
 // What reading an item finds: how many bytes it takes, or the place of the first fault, counted from the item's first byte.
 pub enum Item {

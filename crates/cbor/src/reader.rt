@@ -11,7 +11,6 @@ use crate::head;
 use crate::head::Head;
 use crate::head::Kind;
 use crate::order;
-use crate::utf8;
 
 // No slice has as many bytes.
 pub(crate) const FAULT: usize = 0x8000_0000_0000_0000;
@@ -59,6 +58,7 @@ fn extent(msg: &[u8], levels: u8) -> usize
     if msg.len() < n {
         return FAULT;
     }
+    // The major type of a text is 3.
     if msg[0] / 32 == 3 {
         return checked(msg, 1, n);
     }
@@ -91,7 +91,7 @@ fn string(msg: &[u8], count: u64, start: usize) -> usize
     }
 }
 
-// A text of count bytes from start.
+// A text of count bytes from start: a string that is UTF-8.
 fn text(msg: &[u8], count: u64, start: usize) -> usize
     requires { ⌜ start ≤ length (now msg) ⌝ }
     ensures { λ r. ⌜ r ≡ asNumber (textOf count start (now (msg .entry))) ⌝ }

@@ -4,7 +4,7 @@ use mathlib.Core.Path.{_≡_, refl}
 use mathlib.Core.List.{List, [], _∷_, _++_}
 use lib.ListN.{replicate}
 use Rattle.cbor.specs.Head.{firstOf, majorOf, argumentOf, simpleOf, shortestOf, longHead, headInForm, headAfter, headOf}
-use Rattle.cbor.specs.Utf8.{begunBy, octetsAfter, utf8}
+use Rattle.cbor.specs.Text.{begunBy, octetsAfter, utf8}
 use Rattle.cbor.specs.Order.{bytesBefore, keyBefore}
 use Rattle.cbor.specs.Item.{andThen, countedFrom, readAt, stringOf, checkedOf, textOf, byHead, keyOfKind, keyOf, nextKeyOf, elementsOf, entriesOf, itemOf}
 use Rattle.command.specs.declared.Checked.{Checked}
@@ -37,6 +37,9 @@ messages =
     ∷ (0x01 ∷ 0xa0 ∷ [])
     -- with a byte after the map
     ∷ (0x01 ∷ 0xa0 ∷ 0x00 ∷ [])
+    -- with a key that is an overlong form, and with one that is a text
+    ∷ (0x01 ∷ 0xa1 ∷ 0x62 ∷ 0xc0 ∷ 0x80 ∷ 0x00 ∷ [])
+    ∷ (0x01 ∷ 0xa1 ∷ 0x62 ∷ 0xc3 ∷ 0xa9 ∷ 0x00 ∷ [])
     -- GetAssertion
     ∷ (0x02 ∷ 0xa2 ∷ 0x01 ∷ 0x61 ∷ 0x78 ∷ 0x02 ∷ 0x58 ∷ 0x20 ∷ replicate 32 0xab)
     -- with a hash of 31
@@ -53,6 +56,6 @@ pub answers : List (List ℕ) → List Checked
 answers [] = []
 answers (s ∷ ss) = checkOf s ∷ answers ss
 
-pub examples : answers messages ≡ Refused 0x03 ∷ Info ∷ Refused 0x03 ∷ Refused 0x01 ∷ Refused 0x12 ∷ Refused 0x14 ∷ Refused 0x12 ∷ Good 8 ∷ Refused 0x03 ∷ Good 5 ∷ Refused 0x26 ∷ Refused 0x26 ∷ []
+pub examples : answers messages ≡ Refused 0x03 ∷ Info ∷ Refused 0x03 ∷ Refused 0x01 ∷ Refused 0x12 ∷ Refused 0x14 ∷ Refused 0x12 ∷ Refused 0x12 ∷ Refused 0x14 ∷ Good 8 ∷ Refused 0x03 ∷ Good 5 ∷ Refused 0x26 ∷ Refused 0x26 ∷ []
 unfolding messages answers itemOf byHead entriesOf elementsOf nextKeyOf keyOf keyOfKind textOf checkedOf utf8 octetsAfter begunBy stringOf readAt countedFrom andThen keyBefore bytesBefore headOf headAfter headInForm longHead shortestOf firstOf majorOf argumentOf simpleOf argumentIn after placesAt entriesAt counted arrayAt mapAt sameBytes valueOf onFound hashValue minusSeven isPublicKey oursOf typeOf algOf entryOf inTurn algorithmsOf contentOf parameterOf throughOf requiredOf absentOf shownOf goodOf settledOf oneMap parametersOf commandOf checkOf
 examples = refl

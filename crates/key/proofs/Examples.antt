@@ -4,7 +4,7 @@ use Rattle.wire.specs.Copying.{overwrite}
 use Rattle.wire.specs.Cutting.{packetsNeeded, begins, room, carries, cut, put}
 use Rattle.wire.specs.Packet.{packets, bytes4, bytes2, filled, channelOf, opens, commandOf, lengthOf, numberOf, packetOf, errorOn, initReply}
 use Rattle.cbor.specs.Head.{firstOf, majorOf, argumentOf, simpleOf, shortestOf, longHead, headInForm, headAfter, headOf}
-use Rattle.cbor.specs.Utf8.{begunBy, octetsAfter, utf8}
+use Rattle.cbor.specs.Text.{begunBy, octetsAfter, utf8}
 use Rattle.cbor.specs.Order.{bytesBefore, keyBefore}
 use Rattle.cbor.specs.Item.{andThen, countedFrom, readAt, stringOf, checkedOf, textOf, byHead, keyOfKind, keyOf, nextKeyOf, elementsOf, entriesOf, itemOf}
 use Rattle.command.specs.Map.{argumentIn, after, placesAt, entriesAt, counted, arrayAt, mapAt, sameBytes, valueOf, onFound}

@@ -3,7 +3,7 @@ use Prim.Native.Nat.{ℕ}
 use mathlib.Core.List.{List, [], _∷_}
 use mathlib.Core.Bool.{Bool, true, false}
 use lib.Dec.{leb}
-use Rattle.cbor.specs.Choice.{if_then_else_}
+use Rattle.utf8.specs.Choice.{if_then_else_}
 
 -- The bytes from low to high.
 pub record Range : Type 0 where

@@ -5,10 +5,10 @@ use native.Mathlib.Omega.{arith}
 use native.Mathlib.Nat.{pos-of-ne-zero}
 use lib.ListN.{length, drop}
 use borrow.Author.Needs.{needs}
-use Rattle.cbor.specs.Utf8.{utf8}
-use Rattle.cbor.proofs.Sequences.{next-sequence, no-sequence, text-ends}
-use Rattle.cbor.proofs.utf8.is_utf8.Statement.{statement}
-use Rattle.cbor.proofs.utf8.is_utf8.Tie as tie
+use Rattle.utf8.specs.Utf8.{utf8}
+use Rattle.utf8.proofs.Sequences.{next-sequence, no-sequence, text-ends}
+use Rattle.utf8.proofs.is_utf8.Statement.{statement}
+use Rattle.utf8.proofs.is_utf8.Tie as tie
 
 abbrev Inv-loop : tie.InvT-loop
 Inv-loop s at₀ at = (at ≤ length s) × (utf8 s ≡ utf8 (drop at s))

@@ -3,9 +3,9 @@ use Prim.Native.Nat.{_-_, _≤_}
 use mathlib.Core.Path.{refl}
 use native.Mathlib.Omega.{arith}
 use borrow.Author.Needs.{needs}
-use Rattle.cbor.proofs.Ascii.{Joined, join-next, join-end}
-use Rattle.cbor.proofs.utf8.is_ascii.Statement.{statement}
-use Rattle.cbor.proofs.utf8.is_ascii.Tie as tie
+use Rattle.utf8.proofs.Ascii.{Joined, join-next, join-end}
+use Rattle.utf8.proofs.is_ascii.Statement.{statement}
+use Rattle.utf8.proofs.is_ascii.Tie as tie
 
 abbrev Inv-loop : tie.InvT-loop
 Inv-loop s start end all₀ i₀ all i = (i ≤ end) × Joined s start end all i

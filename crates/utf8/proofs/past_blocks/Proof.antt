@@ -5,10 +5,10 @@ use native.Mathlib.Omega.{arith}
 use lib.ListN.{length}
 use borrow.Author.Needs.{needs}
 use borrow.Author.Tests.{not-true, not-false}
-use Rattle.cbor.specs.Steps.{AsciiUpTo}
-use Rattle.cbor.proofs.Ascii.{past-block}
-use Rattle.cbor.proofs.utf8.past_blocks.Statement.{statement}
-use Rattle.cbor.proofs.utf8.past_blocks.Tie as tie
+use Rattle.utf8.specs.Steps.{AsciiUpTo}
+use Rattle.utf8.proofs.Ascii.{past-block}
+use Rattle.utf8.proofs.past_blocks.Statement.{statement}
+use Rattle.utf8.proofs.past_blocks.Tie as tie
 
 abbrev Inv-loop : tie.InvT-loop
 Inv-loop s start size at₀ at = AsciiUpTo s start at

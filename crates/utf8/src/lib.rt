@@ -3,14 +3,13 @@ ghost use mathlib.Core.Path.{_≡_};
 ghost use Prim.Native.Nat.{_+_, _≤_, _<_};
 ghost use mathlib.Core.Bool.{false};
 ghost use mathlib.Core.List.{_∷_};
-ghost use lib.ListN.{length, drop};
-ghost use Rattle.cbor.specs.Bytes.{u8At};
-ghost use Rattle.cbor.specs.Utf8.{_to_, holds, utf8};
-ghost use Rattle.cbor.specs.Item.{part};
-ghost use Rattle.cbor.specs.Steps.{lengthBy, sequenceOf, tailsOf, ascii, AsciiUpTo};
+ghost use lib.ListN.{length, getD, drop};
+ghost use Rattle.utf8.specs.Parts.{part};
+ghost use Rattle.utf8.specs.Utf8.{_to_, holds, utf8};
+ghost use Rattle.utf8.specs.Steps.{lengthBy, sequenceOf, tailsOf, ascii, AsciiUpTo};
 
 // Whether the bytes are UTF-8.
-pub(crate) fn is_utf8(s: &[u8]) -> bool
+pub fn is_utf8(s: &[u8]) -> bool
     ensures { λ r. ⌜ r ≡ utf8 (now (s .entry)) ⌝ }
 {
     let mut at = 0;
@@ -31,7 +30,7 @@ pub(crate) fn is_utf8(s: &[u8]) -> bool
 // Where the ASCII ends that begins at start. It goes by blocks, which the compiler turns into a few loads and one test; but a space between
 // words of other letters is alone, and is not worth a block.
 fn past_ascii(s: &[u8], start: usize) -> usize
-    requires { ⌜ (start < length (now s)) × (u8At (now s) start < 0x80) ⌝ }
+    requires { ⌜ (start < length (now s)) × (getD (now s) start 0 < 0x80) ⌝ }
     ensures { λ r. ⌜ AsciiUpTo (now (s .entry)) start r × (start < r) ⌝ }
 {
     let next = start + 1;

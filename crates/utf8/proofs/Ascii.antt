@@ -5,20 +5,19 @@ use mathlib.Core.List.{List, [], _∷_}
 use mathlib.Core.Bool.{Bool, true, false, true≢false}
 use native.Mathlib.Omega.{arith}
 use native.Mathlib.Numerals.{add-one}
-use lib.ListN.{length, take, drop, length-drop}
+use lib.ListN.{length, getD, take, drop, length-drop}
 use lib.Seq.{drop-cons, drop-drop}
 use lib.Bits.{bitOr, or-add-and, and-le-l, and-le-r, or-lt}
 use lib.Dec.{ltb}
 use borrow.Author.Tests.{lt-ltb, le-ltb, ltb-true, ltb-false}
-use Rattle.cbor.specs.Choice.{if_then_else_}
-use Rattle.cbor.specs.Bytes.{u8At}
-use Rattle.cbor.specs.Utf8.{utf8Char, octetsAfter, utf8}
-use Rattle.cbor.specs.Item.{part}
-use Rattle.cbor.specs.Steps.{ascii, AsciiUpTo}
-use Rattle.cbor.proofs.Sequences.{row}
+use Rattle.utf8.specs.Choice.{if_then_else_}
+use Rattle.utf8.specs.Parts.{part}
+use Rattle.utf8.specs.Utf8.{utf8Char, octetsAfter, utf8}
+use Rattle.utf8.specs.Steps.{ascii, AsciiUpTo}
+use Rattle.utf8.proofs.Sequences.{row}
 
 -- Bytes that are joined are ASCII if each is.
-pub joined : (a b : ℕ) → ltb (bitOr a b) 0x80 ≡ (if ltb a 0x80 then ltb b 0x80 else false)
+joined : (a b : ℕ) → ltb (bitOr a b) 0x80 ≡ (if ltb a 0x80 then ltb b 0x80 else false)
 joined a b = go (ltb a 0x80) (ltb b 0x80) refl refl
   where
     go : (x y : Bool) → ltb a 0x80 ≡ x → ltb b 0x80 ≡ y → ltb (bitOr a b) 0x80 ≡ (if x then y else false)
@@ -43,17 +42,17 @@ past-block s at n h e =
     ascii-step n (drop at s) (omega (arith, length-drop at s)) (rw i at e) ∙ ap utf8 (drop-drop n at s)
 
 -- A byte that is ASCII is a block of its own.
-one-ascii : (s : List ℕ) (at : ℕ) → at < length s → u8At s at < 0x80 → ascii (part s at (at + 1)) ≡ true
+one-ascii : (s : List ℕ) (at : ℕ) → at < length s → getD s at 0 < 0x80 → ascii (part s at (at + 1)) ≡ true
 unfolding ascii
 one-ascii s at h l =
     let i : at + 1 - at ≡ 1 = omega arith in
     rw (i, drop-cons s at 0 h, lt-ltb _ _ l)
 
-pub past-one : (s : List ℕ) (at : ℕ) → at < length s → u8At s at < 0x80 → AsciiUpTo s at (at + 1)
+pub past-one : (s : List ℕ) (at : ℕ) → at < length s → getD s at 0 < 0x80 → AsciiUpTo s at (at + 1)
 past-one s at h l = (omega arith, omega arith, past-block s at 1 (omega arith) (one-ascii s at h l))
 
 -- So it is passed before a block of one byte is left that is not.
-pub first-passed : (s : List ℕ) (start r : ℕ) → start < length s → u8At s start < 0x80 → start ≤ r → (r + 1 ≤ length s → ascii (part s r (r + 1)) ≡ false) → start < r
+pub first-passed : (s : List ℕ) (start r : ℕ) → start < length s → getD s start 0 < 0x80 → start ≤ r → (r + 1 ≤ length s → ascii (part s r (r + 1)) ≡ false) → start < r
 first-passed s start r h l g f = go (ltb start r) refl
   where
     go : (t : Bool) → ltb start r ≡ t → start < r
@@ -67,13 +66,13 @@ pub record Joined (s : List ℕ) (start end all i : ℕ) : Type 0 where
   pub block : ascii (part s start end) ≡ (if ltb all 0x80 then ascii (part s i end) else false)
 
 module _ {s : List ℕ} {start end all i : ℕ} (w : Joined s start end all i) where
-  pub join-next : i < end → end ≤ length s → Joined s start end (bitOr all (u8At s i)) (i + 1)
+  pub join-next : i < end → end ≤ length s → Joined s start end (bitOr all (getD s i 0)) (i + 1)
   unfolding ascii
   join-next h l =
       let k : end - i ≡ suc (end - (i + 1)) = omega arith in
-      record { block = w .block ∙ rw (joined all (u8At s i), k, drop-cons s i 0 (omega arith), add-one i) (go (ltb all 0x80)) }
+      record { block = w .block ∙ rw (joined all (getD s i 0), k, drop-cons s i 0 (omega arith), add-one i) (go (ltb all 0x80)) }
     where
-      go : (x : Bool) → _≡_ {A = Bool} (if x then (if ltb (u8At s i) 0x80 then ascii (take (end - suc i) (drop (suc i) s)) else false) else false) (if (if x then ltb (u8At s i) 0x80 else false) then ascii (take (end - suc i) (drop (suc i) s)) else false)
+      go : (x : Bool) → _≡_ {A = Bool} (if x then (if ltb (getD s i 0) 0x80 then ascii (take (end - suc i) (drop (suc i) s)) else false) else false) (if (if x then ltb (getD s i 0) 0x80 else false) then ascii (take (end - suc i) (drop (suc i) s)) else false)
       go true = refl
       go false = refl
 

@@ -5,15 +5,14 @@ use mathlib.Core.Logic.{inl, inr}
 use mathlib.Core.List.{List, [], _∷_, _++_}
 use mathlib.Core.Bool.{Bool, true, false, true≢false}
 use native.Mathlib.Omega.{arith}
-use lib.ListN.{length, drop}
+use lib.ListN.{length, getD, drop}
 use lib.Dec.{ltb, leb}
 use borrow.Author.Tests.{lt-ltb, le-ltb, ltb-true, ltb-false, le-leb, lt-leb, leb-true}
-use Rattle.cbor.specs.Choice.{if_then_else_}
-use Rattle.cbor.specs.Bytes.{u8At}
-use Rattle.cbor.specs.Utf8.{Range, _to_, utf8Tail, utf8Char, octetsAfter, utf8}
-use Rattle.cbor.specs.Scalars.{Scalar, Scalars, encoded, encoding, Encodes}
-use Rattle.cbor.specs.Theorems.{ScalarValues, OneReading}
-use Rattle.cbor.proofs.Sequences.{Begins, BeginsNone, othersAt, within, row, no-row}
+use Rattle.utf8.specs.Choice.{if_then_else_}
+use Rattle.utf8.specs.Utf8.{Range, utf8Tail, utf8Char, octetsAfter, utf8}
+use Rattle.utf8.specs.Scalars.{Scalar, Scalars, encoded, encoding, Encodes}
+use Rattle.utf8.specs.Theorems.{ScalarValues, OneReading}
+use Rattle.utf8.proofs.Sequences.{Begins, BeginsNone, othersAt, within, row, no-row}
 
 -- A number is below another or not.
 below-or : {A : Type 0} (b n : ℕ) → (b < n → A) → (n ≤ b → A) → A
@@ -165,37 +164,47 @@ value-4 b x y z l w h =
     let e3 : 0x80 + c % 64 ≡ z = omega arith in
     rw (encoded-4 c h, e0, e1, e2, e3)
 
+-- The range of the second byte in row k.
+abbrev second : ℕ → Range
+second k = go (othersAt k utf8Char)
+  where
+    go : List Range → Range
+    go [] = utf8Tail
+    go (r ∷ rs) = r
+
 -- A text that begins with the byte b, if what is left after a sequence is the encoding of scalar values.
 module _ (b : ℕ) (s : List ℕ) (again : (t : List ℕ) → length t ≤ length s → utf8 t ≡ true → Text t) where
   back-1 : b < 0x80 → utf8 s ≡ true → Text (b ∷ s)
   back-1 h e = front b (b ∷ []) (inl (omega arith)) (encoded-1 b h) (again s (omega arith) e) refl
 
-  back-2 : 0xc2 ≤ b → b ≤ 0xdf → octetsAfter (utf8Tail ∷ []) s ≡ true → Text (b ∷ s)
-  back-2 l g e = let w = read (utf8Tail ∷ []) s e in go (w .bytes) (w .rest) (w .whole) (w .ranges) (again (w .rest) (w .shorter) (w .good))
+  back-2 : (0xc2 ≤ b) × (b ≤ 0xdf) → octetsAfter (utf8Tail ∷ []) s ≡ true → Text (b ∷ s)
+  back-2 h e = let w = read (utf8Tail ∷ []) s e in go (w .bytes) (w .rest) (w .whole) (w .ranges) (again (w .rest) (w .shorter) (w .good))
     where
       go : (t rest : List ℕ) → t ++ rest ≡ s → InRanges (utf8Tail ∷ []) t → Text rest → Text (b ∷ s)
       go [] rest f i w = absurd i
-      go (x ∷ []) rest f i w = front (more (b - 0xc0) x) (b ∷ x ∷ []) (inl (omega arith)) (value-2 b x l g i) w (ap (λ (t : List ℕ). b ∷ t) f)
+      go (x ∷ []) rest f i w = front (more (b - 0xc0) x) (b ∷ x ∷ []) (inl (omega arith)) (value-2 b x (h .0) (h .1) i) w (ap (λ (t : List ℕ). b ∷ t) f)
       go (x ∷ y ∷ t) rest f i w = absurd (i .2)
 
-  back-3 : (r : Range) → 0xe0 ≤ b → b ≤ 0xef → 0x80 ≤ r .low → r .high ≤ 0xbf → ((x y : ℕ) → InRanges (r ∷ utf8Tail ∷ []) (x ∷ y ∷ []) → (0x800 ≤ more (more (b - 0xe0) x) y) × Scalar (more (more (b - 0xe0) x) y)) → octetsAfter (r ∷ utf8Tail ∷ []) s ≡ true → Text (b ∷ s)
-  back-3 r l g lr gr k e = let w = read (r ∷ utf8Tail ∷ []) s e in go (w .bytes) (w .rest) (w .whole) (w .ranges) (again (w .rest) (w .shorter) (w .good))
-    where
-      go : (t rest : List ℕ) → t ++ rest ≡ s → InRanges (r ∷ utf8Tail ∷ []) t → Text rest → Text (b ∷ s)
-      go [] rest f i w = absurd i
-      go (x ∷ []) rest f i w = absurd (i .2)
-      go (x ∷ y ∷ []) rest f i w = front (more (more (b - 0xe0) x) y) (b ∷ x ∷ y ∷ []) (k x y i .1) (value-3 b x y l g (omega arith) (k x y i .0)) w (ap (λ (t : List ℕ). b ∷ t) f)
-      go (x ∷ y ∷ z ∷ t) rest f i w = absurd (i .2 .2)
+  -- the second byte is in the range r
+  module _ (r : Range) (lr : 0x80 ≤ r .low) (gr : r .high ≤ 0xbf) where
+    back-3 : (0xe0 ≤ b) × (b ≤ 0xef) → ((x y : ℕ) → InRanges (r ∷ utf8Tail ∷ []) (x ∷ y ∷ []) → (0x800 ≤ more (more (b - 0xe0) x) y) × Scalar (more (more (b - 0xe0) x) y)) → octetsAfter (r ∷ utf8Tail ∷ []) s ≡ true → Text (b ∷ s)
+    back-3 h k e = let w = read (r ∷ utf8Tail ∷ []) s e in go (w .bytes) (w .rest) (w .whole) (w .ranges) (again (w .rest) (w .shorter) (w .good))
+      where
+        go : (t rest : List ℕ) → t ++ rest ≡ s → InRanges (r ∷ utf8Tail ∷ []) t → Text rest → Text (b ∷ s)
+        go [] rest f i w = absurd i
+        go (x ∷ []) rest f i w = absurd (i .2)
+        go (x ∷ y ∷ []) rest f i w = front (more (more (b - 0xe0) x) y) (b ∷ x ∷ y ∷ []) (k x y i .1) (value-3 b x y (h .0) (h .1) (omega arith) (k x y i .0)) w (ap (λ (t : List ℕ). b ∷ t) f)
+        go (x ∷ y ∷ z ∷ t) rest f i w = absurd (i .2 .2)
 
-  back-4 : (r : Range) → 0xf0 ≤ b → 0x80 ≤ r .low → r .high ≤ 0xbf → ((x y z : ℕ) → InRanges (r ∷ utf8Tail ∷ utf8Tail ∷ []) (x ∷ y ∷ z ∷ []) → (0x1_0000 ≤ more (more (more (b - 0xf0) x) y) z) × (more (more (more (b - 0xf0) x) y) z ≤ 0x10_ffff)) → octetsAfter (r ∷ utf8Tail ∷ utf8Tail ∷ []) s ≡ true → Text (b ∷ s)
-  back-4 r l lr gr k e = let w = read (r ∷ utf8Tail ∷ utf8Tail ∷ []) s e in go (w .bytes) (w .rest) (w .whole) (w .ranges) (again (w .rest) (w .shorter) (w .good))
-    where
-      go : (t rest : List ℕ) → t ++ rest ≡ s → InRanges (r ∷ utf8Tail ∷ utf8Tail ∷ []) t → Text rest → Text (b ∷ s)
-      go [] rest f i w = absurd i
-      go (x ∷ []) rest f i w = absurd (i .2)
-      go (x ∷ y ∷ []) rest f i w = absurd (i .2 .2)
-      go (x ∷ y ∷ z ∷ []) rest f i w = front (more (more (more (b - 0xf0) x) y) z) (b ∷ x ∷ y ∷ z ∷ []) (inr (omega (arith, k x y z i))) (value-4 b x y z l (omega arith) (k x y z i .0)) w (ap (λ (t : List ℕ). b ∷ t) f)
-      go (x ∷ y ∷ z ∷ u ∷ t) rest f i w = absurd (i .2 .2 .2)
+    back-4 : 0xf0 ≤ b → ((x y z : ℕ) → InRanges (r ∷ utf8Tail ∷ utf8Tail ∷ []) (x ∷ y ∷ z ∷ []) → (0x1_0000 ≤ more (more (more (b - 0xf0) x) y) z) × (more (more (more (b - 0xf0) x) y) z ≤ 0x10_ffff)) → octetsAfter (r ∷ utf8Tail ∷ utf8Tail ∷ []) s ≡ true → Text (b ∷ s)
+    back-4 h k e = let w = read (r ∷ utf8Tail ∷ utf8Tail ∷ []) s e in go (w .bytes) (w .rest) (w .whole) (w .ranges) (again (w .rest) (w .shorter) (w .good))
+      where
+        go : (t rest : List ℕ) → t ++ rest ≡ s → InRanges (r ∷ utf8Tail ∷ utf8Tail ∷ []) t → Text rest → Text (b ∷ s)
+        go [] rest f i w = absurd i
+        go (x ∷ []) rest f i w = absurd (i .2)
+        go (x ∷ y ∷ []) rest f i w = absurd (i .2 .2)
+        go (x ∷ y ∷ z ∷ []) rest f i w = front (more (more (more (b - 0xf0) x) y) z) (b ∷ x ∷ y ∷ z ∷ []) (inr (omega (arith, k x y z i))) (value-4 b x y z h (omega arith) (k x y z i .0)) w (ap (λ (t : List ℕ). b ∷ t) f)
+        go (x ∷ y ∷ z ∷ u ∷ t) rest f i w = absurd (i .2 .2 .2)
 
   none : (k : ℕ) → BeginsNone b k utf8Char → utf8 (b ∷ s) ≡ true → Text (b ∷ s)
   unfolding utf8 octetsAfter
@@ -207,14 +216,14 @@ module _ (b : ℕ) (s : List ℕ) (again : (t : List ℕ) → length t ≤ lengt
   begins e =
       below-or b 0x80 (λ h. back-1 h (left 0 (omega arith)))
       (λ g. below-or b 0xc2 (λ h. none 1 (omega arith) e)
-      (λ g. below-or b 0xe0 (λ h. back-2 g (omega arith) (left 1 (omega arith)))
-      (λ g. below-or b 0xe1 (λ h. back-3 (0xa0 to 0xbf) g (omega arith) (omega arith) (omega arith) (λ x y i. (omega arith, inl (omega arith))) (left 2 (omega arith)))
-      (λ g. below-or b 0xed (λ h. back-3 utf8Tail (omega arith) (omega arith) (omega arith) (omega arith) (λ x y i. (omega arith, inl (omega arith))) (left 3 (omega arith)))
-      (λ g. below-or b 0xee (λ h. back-3 (0x80 to 0x9f) (omega arith) (omega arith) (omega arith) (omega arith) (λ x y i. (omega arith, inl (omega arith))) (left 4 (omega arith)))
-      (λ g. below-or b 0xf0 (λ h. back-3 utf8Tail (omega arith) (omega arith) (omega arith) (omega arith) (λ x y i. (omega arith, inr (omega arith))) (left 5 (omega arith)))
-      (λ g. below-or b 0xf1 (λ h. back-4 (0x90 to 0xbf) g (omega arith) (omega arith) (λ x y z i. (omega arith, omega arith)) (left 6 (omega arith)))
-      (λ g. below-or b 0xf4 (λ h. back-4 utf8Tail (omega arith) (omega arith) (omega arith) (λ x y z i. (omega arith, omega arith)) (left 7 (omega arith)))
-      (λ g. below-or b 0xf5 (λ h. back-4 (0x80 to 0x8f) (omega arith) (omega arith) (omega arith) (λ x y z i. (omega arith, omega arith)) (left 8 (omega arith)))
+      (λ g. below-or b 0xe0 (λ h. back-2 (omega arith) (left 1 (omega arith)))
+      (λ g. below-or b 0xe1 (λ h. back-3 (second 2) (omega arith) (omega arith) (omega arith) (λ x y i. (omega arith, inl (omega arith))) (left 2 (omega arith)))
+      (λ g. below-or b 0xed (λ h. back-3 (second 3) (omega arith) (omega arith) (omega arith) (λ x y i. (omega arith, inl (omega arith))) (left 3 (omega arith)))
+      (λ g. below-or b 0xee (λ h. back-3 (second 4) (omega arith) (omega arith) (omega arith) (λ x y i. (omega arith, inl (omega arith))) (left 4 (omega arith)))
+      (λ g. below-or b 0xf0 (λ h. back-3 (second 5) (omega arith) (omega arith) (omega arith) (λ x y i. (omega arith, inr (omega arith))) (left 5 (omega arith)))
+      (λ g. below-or b 0xf1 (λ h. back-4 (second 6) (omega arith) (omega arith) (omega arith) (λ x y z i. omega arith) (left 6 (omega arith)))
+      (λ g. below-or b 0xf4 (λ h. back-4 (second 7) (omega arith) (omega arith) (omega arith) (λ x y z i. omega arith) (left 7 (omega arith)))
+      (λ g. below-or b 0xf5 (λ h. back-4 (second 8) (omega arith) (omega arith) (omega arith) (λ x y z i. omega arith) (left 8 (omega arith)))
       (λ g. none 9 (omega arith) e))))))))))
     where
       left : (k : ℕ) → Begins b k utf8Char → octetsAfter (othersAt k utf8Char) s ≡ true
@@ -243,16 +252,16 @@ scalar-values s = (taken-encoding (length s) s (omega arith), λ cs w. ap utf8 (
 -- The scalar value that an encoding begins with, and what follows it.
 first : List ℕ → ℕ
 first s =
-    if ltb (u8At s 0) 0x80 then u8At s 0
-    else if ltb (u8At s 0) 0xe0 then more (u8At s 0 - 0xc0) (u8At s 1)
-    else if ltb (u8At s 0) 0xf0 then more (more (u8At s 0 - 0xe0) (u8At s 1)) (u8At s 2)
-    else more (more (more (u8At s 0 - 0xf0) (u8At s 1)) (u8At s 2)) (u8At s 3)
+    if ltb (getD s 0 0) 0x80 then getD s 0 0
+    else if ltb (getD s 0 0) 0xe0 then more (getD s 0 0 - 0xc0) (getD s 1 0)
+    else if ltb (getD s 0 0) 0xf0 then more (more (getD s 0 0 - 0xe0) (getD s 1 0)) (getD s 2 0)
+    else more (more (more (getD s 0 0 - 0xf0) (getD s 1 0)) (getD s 2 0)) (getD s 3 0)
 
 others : List ℕ → List ℕ
 others s =
-    if ltb (u8At s 0) 0x80 then drop 1 s
-    else if ltb (u8At s 0) 0xe0 then drop 2 s
-    else if ltb (u8At s 0) 0xf0 then drop 3 s
+    if ltb (getD s 0 0) 0x80 then drop 1 s
+    else if ltb (getD s 0 0) 0xe0 then drop 2 s
+    else if ltb (getD s 0 0) 0xf0 then drop 3 s
     else drop 4 s
 
 parted : (c : ℕ) (s : List ℕ) → Scalar c → (first (encoded c ++ s) ≡ c) × (others (encoded c ++ s) ≡ s)

@@ -1,9 +1,9 @@
 -- Each arm of the match is a row of the table, counted from 0, or one of the two gaps. The arms of one byte come first.
 use native.Mathlib.Omega.{arith}
 use borrow.Author.Needs.{needs}
-use Rattle.cbor.proofs.Sequences.{by-row, by-none, one-byte}
-use Rattle.cbor.proofs.utf8.sequence.Statement.{statement}
-use Rattle.cbor.proofs.utf8.sequence.Tie as tie
+use Rattle.utf8.proofs.Sequences.{by-row, by-none, one-byte}
+use Rattle.utf8.proofs.sequence.Statement.{statement}
+use Rattle.utf8.proofs.sequence.Tie as tie
 
 pub sequence-spec : {M : Type 1} → statement M
 sequence-spec =

@@ -2,9 +2,9 @@
 use mathlib.Core.Path.{_∙_}
 use native.Mathlib.Omega.{arith}
 use borrow.Author.Needs.{needs}
-use Rattle.cbor.proofs.Ascii.{past-one, first-passed}
-use Rattle.cbor.proofs.utf8.past_ascii.Statement.{statement}
-use Rattle.cbor.proofs.utf8.past_ascii.Tie as tie
+use Rattle.utf8.proofs.Ascii.{past-one, first-passed}
+use Rattle.utf8.proofs.past_ascii.Statement.{statement}
+use Rattle.utf8.proofs.past_ascii.Tie as tie
 
 returns : tie.Need-returns
 returns c =

@@ -6,16 +6,13 @@ use mathlib.Core.Bool.{Bool, true, false, true≢false}
 use native.Mathlib.Omega.{arith}
 use native.Mathlib.Nat.{pos-of-ne-zero}
 use native.Mathlib.Numerals.{add-one}
-use lib.ListN.{length, take, drop, length-drop, drop-of-length-le}
-use lib.Seq.{drop-cons, drop-drop}
+use lib.ListN.{length, getD, take, drop, length-drop, drop-of-length-le}
+use lib.Seq.{take-all, drop-cons, drop-drop}
 use lib.Dec.{leb}
 use borrow.Author.Tests.{le-leb, lt-leb}
-use Rattle.cbor.specs.Choice.{if_then_else_}
-use Rattle.cbor.specs.Bytes.{u8At}
-use Rattle.cbor.specs.Utf8.{Range, _to_, holds, Sequence, utf8Tail, utf8Char, begunBy, octetsAfter, utf8}
-use Rattle.cbor.specs.Item.{part}
-use Rattle.cbor.specs.Steps.{fits, lengthBy, sequenceOf, tailsOf}
-use Rattle.cbor.proofs.Items.{rest}
+use Rattle.utf8.specs.Choice.{if_then_else_}
+use Rattle.utf8.specs.Utf8.{Range, _to_, holds, Sequence, utf8Tail, utf8Char, begunBy, octetsAfter, utf8}
+use Rattle.utf8.specs.Steps.{fits, lengthBy, sequenceOf, tailsOf}
 
 pub within : (r : Range) (b : ℕ) → r .low ≤ b → b ≤ r .high → holds r b ≡ true
 within r b l h = rw (le-leb _ _ l) (le-leb _ _ h)
@@ -62,13 +59,13 @@ module _ {A : Type 0} (b : ℕ) (none : A) (g : List Range → A) where
   no-row (suc k) (r ∷ rows) h = rw (above (r .first) b (h .0)) (no-row k rows (h .1))
 
 -- The length r of a sequence, by the row that its first byte begins.
-pub by-row : (s : List ℕ) (k : ℕ) {r : ℕ} → r ≡ lengthBy (othersAt k utf8Char) (drop 1 s) → Begins (u8At s 0) k utf8Char → r ≡ sequenceOf s
+pub by-row : (s : List ℕ) (k : ℕ) {r : ℕ} → r ≡ lengthBy (othersAt k utf8Char) (drop 1 s) → Begins (getD s 0 0) k utf8Char → r ≡ sequenceOf s
 unfolding sequenceOf
-by-row s k e h = e ∙ sym (row (u8At s 0) 0 (λ others. lengthBy others (drop 1 s)) k utf8Char h)
+by-row s k e h = e ∙ sym (row (getD s 0 0) 0 (λ others. lengthBy others (drop 1 s)) k utf8Char h)
 
-pub by-none : (s : List ℕ) (k : ℕ) → BeginsNone (u8At s 0) k utf8Char → 0 ≡ sequenceOf s
+pub by-none : (s : List ℕ) (k : ℕ) → BeginsNone (getD s 0 0) k utf8Char → 0 ≡ sequenceOf s
 unfolding sequenceOf
-by-none s k h = sym (no-row (u8At s 0) 0 (λ others. lengthBy others (drop 1 s)) k utf8Char h)
+by-none s k h = sym (no-row (getD s 0 0) 0 (λ others. lengthBy others (drop 1 s)) k utf8Char h)
 
 pub one-byte : (s : List ℕ) → 1 ≡ lengthBy [] s
 unfolding lengthBy fits
@@ -147,13 +144,16 @@ sequence-refused (b ∷ s) h e = begun-left b s utf8Char ∙ ap (λ (k : ℕ). l
 
 -- The sequence that a call on the part from `at` on found, said of the whole.
 module _ (s : List ℕ) (at : ℕ) {n : ℕ} (h : at < length s) (e : n ≡ sequenceOf (take (length s - at) (drop at s))) where
+  whole : take (length s - at) (drop at s) ≡ drop at s
+  whole = take-all (length s - at) (drop at s) (omega (arith, length-drop at s))
+
   pub next-sequence : (n ≡ 0 → ⊥) → (at + n ≤ length s) × (utf8 (drop at s) ≡ utf8 (drop (at + n) s))
   next-sequence p =
-      let w = sequence-taken (drop at s) n (omega (arith, length-drop at s)) (e ∙ ap sequenceOf (rest s at)) (pos-of-ne-zero p) in
+      let w = sequence-taken (drop at s) n (omega (arith, length-drop at s)) (e ∙ ap sequenceOf whole) (pos-of-ne-zero p) in
       (omega (arith, w .0, length-drop at s), w .1 ∙ ap utf8 (drop-drop n at s))
 
   pub no-sequence : n ≡ 0 → utf8 (drop at s) ≡ false
-  no-sequence z = sequence-refused (drop at s) (omega (arith, length-drop at s)) (sym z ∙ e ∙ ap sequenceOf (rest s at))
+  no-sequence z = sequence-refused (drop at s) (omega (arith, length-drop at s)) (sym z ∙ e ∙ ap sequenceOf whole)
 
 pub text-ends : (s : List ℕ) (at : ℕ) → length s ≤ at → utf8 (drop at s) ≡ true
 unfolding utf8 octetsAfter
@@ -167,11 +167,11 @@ length-refused : (rs : List Range) (s : List ℕ) → fits rs s ≡ false → 0 
 unfolding lengthBy
 length-refused rs s f = rw f
 
-fits-on : (r : Range) (rs : List Range) (s : List ℕ) (i : ℕ) → i < length s → holds r (u8At s i) ≡ true → fits (r ∷ rs) (drop i s) ≡ fits rs (drop (i + 1) s)
+fits-on : (r : Range) (rs : List Range) (s : List ℕ) (i : ℕ) → i < length s → holds r (getD s i 0) ≡ true → fits (r ∷ rs) (drop i s) ≡ fits rs (drop (i + 1) s)
 unfolding fits
 fits-on r rs s i h e = rw (add-one i, drop-cons s i 0 h, e)
 
-fits-off : (r : Range) (rs : List Range) (s : List ℕ) (i : ℕ) → i < length s → holds r (u8At s i) ≡ false → fits (r ∷ rs) (drop i s) ≡ false
+fits-off : (r : Range) (rs : List Range) (s : List ℕ) (i : ℕ) → i < length s → holds r (getD s i 0) ≡ false → fits (r ∷ rs) (drop i s) ≡ false
 unfolding fits
 fits-off r rs s i h e = rw (drop-cons s i 0 h, e)
 
@@ -188,14 +188,14 @@ module _ (s : List ℕ) (low high tails : ℕ) where
       go true f = absurd (omega (arith, fits-within (low to high ∷ tailsOf tails) (drop 1 s) f, tails-length tails, length-drop 1 s))
       go false f = length-refused (low to high ∷ tailsOf tails) (drop 1 s) f
 
-  pub second-off : 1 < length s → holds (low to high) (u8At s 1) ≡ false → 0 ≡ lengthBy (low to high ∷ tailsOf tails) (drop 1 s)
+  pub second-off : 1 < length s → holds (low to high) (getD s 1 0) ≡ false → 0 ≡ lengthBy (low to high ∷ tailsOf tails) (drop 1 s)
   second-off h e = length-refused (low to high ∷ tailsOf tails) (drop 1 s) (fits-off (low to high) (tailsOf tails) s 1 h e)
 
   -- The bytes up to i are of their ranges, so the others decide.
   pub record UpTo (i : ℕ) : Type 0 where
     pub others : fits (low to high ∷ tailsOf tails) (drop 1 s) ≡ fits (tailsOf (tails + 2 - i)) (drop i s)
 
-  pub second-on : 1 < length s → holds (low to high) (u8At s 1) ≡ true → UpTo 2
+  pub second-on : 1 < length s → holds (low to high) (getD s 1 0) ≡ true → UpTo 2
   second-on h e =
       let k : tails + 2 - 2 ≡ tails = omega arith in
       record { others = fits-on (low to high) (tailsOf tails) s 1 h e ∙ ap (λ (n : ℕ). fits (tailsOf n) (drop 2 s)) (sym k) }
@@ -212,8 +212,8 @@ module _ {s : List ℕ} {low high tails i : ℕ} (w : UpTo s low high tails i) w
     next : tails + 2 - i ≡ suc (tails + 2 - (i + 1))
     next = omega arith
 
-    pub tail-on : holds utf8Tail (u8At s i) ≡ true → UpTo s low high tails (i + 1)
+    pub tail-on : holds utf8Tail (getD s i 0) ≡ true → UpTo s low high tails (i + 1)
     tail-on e = record { others = w .others ∙ rw next (fits-on utf8Tail (tailsOf (tails + 2 - (i + 1))) s i (omega arith) e) }
 
-    pub tail-off : holds utf8Tail (u8At s i) ≡ false → 0 ≡ lengthBy (low to high ∷ tailsOf tails) (drop 1 s)
+    pub tail-off : holds utf8Tail (getD s i 0) ≡ false → 0 ≡ lengthBy (low to high ∷ tailsOf tails) (drop 1 s)
     tail-off e = length-refused (low to high ∷ tailsOf tails) (drop 1 s) (w .others ∙ rw next (fits-off utf8Tail (tailsOf (tails + 2 - (i + 1))) s i (omega arith) e))

@@ -3,11 +3,10 @@ use Prim.Native.Nat.{ℕ, zero, suc, _≤_}
 use mathlib.Core.Path.{_≡_}
 use mathlib.Core.List.{List, [], _∷_}
 use mathlib.Core.Bool.{Bool, true, false}
-use lib.ListN.{length, drop}
+use lib.ListN.{length, getD, drop}
 use lib.Dec.{ltb}
-use Rattle.cbor.specs.Choice.{if_then_else_}
-use Rattle.cbor.specs.Bytes.{u8At}
-use Rattle.cbor.specs.Utf8.{Range, holds, utf8Tail, utf8Char, begunBy, utf8}
+use Rattle.utf8.specs.Choice.{if_then_else_}
+use Rattle.utf8.specs.Utf8.{Range, holds, utf8Tail, utf8Char, begunBy, utf8}
 
 -- A byte of each range stands at the start.
 unfoldable pub fits : List Range → List ℕ → Bool
@@ -21,7 +20,7 @@ lengthBy others s = if fits others s then suc (length others) else 0
 
 -- The length of the sequence at the start; 0 where none begins.
 unfoldable pub sequenceOf : List ℕ → ℕ
-sequenceOf s = begunBy (u8At s 0) 0 (λ others. lengthBy others (drop 1 s)) utf8Char
+sequenceOf s = begunBy (getD s 0 0) 0 (λ others. lengthBy others (drop 1 s)) utf8Char
 
 abbrev pub tailsOf : ℕ → List Range
 tailsOf zero = []

@@ -4,9 +4,9 @@ use mathlib.Core.Path.{_≡_}
 use mathlib.Core.Logic.{_⊎_}
 use mathlib.Core.List.{List, [], _∷_, _++_}
 use lib.Dec.{leb}
-use Rattle.cbor.specs.Choice.{if_then_else_}
+use Rattle.utf8.specs.Choice.{if_then_else_}
 
--- The scalar values are 0 to D7FF and E000 to 10FFFF; between them are the surrogates, which stand for none.
+-- The scalar values are 0 to D7FF and E000 to 10FFFF; between them are the surrogates, which stand for no character.
 abbrev pub Scalar : ℕ → Type 0
 Scalar c = (c ≤ 0xd7ff) ⊎ ((0xe000 ≤ c) × (c ≤ 0x10ffff))
 

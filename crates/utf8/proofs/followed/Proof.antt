@@ -4,9 +4,9 @@ use mathlib.Core.Path.{sym, _∙_}
 use native.Mathlib.Omega.{arith}
 use borrow.Author.Needs.{needs}
 use borrow.Author.Tests.{not-true, not-false}
-use Rattle.cbor.proofs.Sequences.{UpTo, too-short, second-on, second-off, tail-on, tail-off, all-on}
-use Rattle.cbor.proofs.utf8.followed.Statement.{statement}
-use Rattle.cbor.proofs.utf8.followed.Tie as tie
+use Rattle.utf8.proofs.Sequences.{UpTo, too-short, second-on, second-off, tail-on, tail-off, all-on}
+use Rattle.utf8.proofs.followed.Statement.{statement}
+use Rattle.utf8.proofs.followed.Tie as tie
 
 abbrev Inv-loop : tie.InvT-loop
 Inv-loop s low high tails n i₀ i = (i ≤ tails + 2) × UpTo s low high tails i
