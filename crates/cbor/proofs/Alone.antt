@@ -12,7 +12,7 @@ use borrow.Author.Tests.{le-leb}
 use Rattle.cbor.specs.Choice.{if_then_else_}
 use Rattle.cbor.specs.Bytes.{u8At, u16At, u32At, u64At}
 use Rattle.cbor.specs.Head.{firstOf, shortestOf, longHead, headInForm, headAfter, headOf}
-use Rattle.cbor.specs.Item.{part, readAt, andThen, stringOf, checkedOf, textOf, plainOf, isKey, keyOfKind, byHead, keyOf, Key}
+use Rattle.cbor.specs.Item.{part, readAt, andThen, stringOf, textOf, plainOf, isKey, keyOfKind, byHead, keyOf, Key}
 use Rattle.cbor.specs.declared.head.Kind.{Kind}
 use Rattle.cbor.specs.declared.head.Kind.the-variants.{Unsigned, Negative, Bytes, Text, Array, Map, Simple}
 use Rattle.cbor.specs.declared.head.First.{First}
@@ -82,7 +82,7 @@ part-same l n s t h w =
     (λ i g. getD-take (n - l) (drop l t) i 0 (omega arith) ∙ getD-drop l t i 0 ∙ w .byte (l + i) (omega arith) ∙ sym (getD-take (n - l) (drop l s) i 0 (omega arith) ∙ getD-drop l s i 0))
 
 text-same : (v l n : ℕ) (s t : List ℕ) → Begins s t n → textOf v l s ≡ Len n → (l ≤ n) × (textOf v l t ≡ Len n)
-unfolding textOf checkedOf andThen
+unfolding textOf andThen
 text-same v l n s t w e =
     let i = text-inside v l n s e in
     let r = string-same v l n s t (w .fits) (i .0) in

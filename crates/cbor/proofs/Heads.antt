@@ -13,7 +13,7 @@ use Rattle.cbor.specs.Bytes.{u8At, u16At, u32At, u64At}
 use Rattle.cbor.specs.Head.{kindOf, argumentOf, simpleOf, majorOf, firstOf, shortestOf, longHead, headInForm, headAfter, headOf}
 use Rattle.cbor.specs.Item.{isKey}
 use Rattle.cbor.specs.declared.head.Kind.{Kind}
-use Rattle.cbor.specs.declared.head.Kind.the-variants.{Text, Simple}
+use Rattle.cbor.specs.declared.head.Kind.the-variants.{Simple}
 use Rattle.cbor.specs.declared.head.First.the-variants.{Argument, Form, Refused}
 use Rattle.cbor.specs.declared.head.Head.{Head}
 use Rattle.cbor.specs.declared.head.Head.the-variants.{Of, Bad}
@@ -166,16 +166,3 @@ module _ (s : List ℕ) {k : Kind} {v l : ℕ} (e : headOf s ≡ Of k v l) where
       go : (t : Bool) → ltb (getD s 0 0 / 32) 6 ≡ t → isKey k ≡ false
       go true p = rw (shape s e .kind (ltb-true _ _ p)) (no-key-kind (getD s 0 0 / 32) (omega arith))
       go false p = rw (shape s e .simple (ltb-false _ _ p))
-
--- The major type of a text.
-pub text-major : (b : ℕ) (s : List ℕ) {v l : ℕ} → Shape b s Text v l → b / 32 ≡ 3
-text-major b s w = go (b / 32) (w .kind) (w .simple)
-  where
-    go : (m : ℕ) → (m < 6 → Text ≡ kindOf m) → (6 ≤ m → Text ≡ Simple) → m ≡ 3
-    go zero e g = let h = e (omega arith) in cc
-    go (suc zero) e g = let h = e (omega arith) in cc
-    go (suc (suc zero)) e g = let h = e (omega arith) in cc
-    go (suc (suc (suc zero))) e g = refl
-    go (suc (suc (suc (suc zero)))) e g = let h = e (omega arith) in cc
-    go (suc (suc (suc (suc (suc zero))))) e g = let h = e (omega arith) in cc
-    go (suc (suc (suc (suc (suc (suc m)))))) e g = let h = g (omega arith) in cc

@@ -12,7 +12,7 @@ use Rattle.cbor.specs.Choice.{if_then_else_}
 use Rattle.cbor.specs.Head.{headOf}
 use Rattle.cbor.specs.Text.{utf8}
 use Rattle.cbor.specs.Order.{keyBefore}
-use Rattle.cbor.specs.Item.{part, countedFrom, readAt, andThen, stringOf, checkedOf, textOf, byHead, keyOf, nextKeyOf, elementsOf, entriesOf, itemOf}
+use Rattle.cbor.specs.Item.{part, countedFrom, readAt, andThen, stringOf, textOf, byHead, keyOf, nextKeyOf, elementsOf, entriesOf, itemOf}
 use Rattle.cbor.specs.declared.head.Kind.the-variants.{Array, Map}
 use Rattle.cbor.specs.declared.head.Head.the-variants.{Of}
 use Rattle.cbor.specs.declared.Item.{Item}
@@ -36,7 +36,7 @@ string-size v l n s = go (leb v (length s - l))
 
 -- A text that was read is a string, and UTF-8.
 pub text-inside : (v l n : ℕ) (s : List ℕ) → textOf v l s ≡ Len n → (stringOf v l s ≡ Len n) × (utf8 (part s l n) ≡ true)
-unfolding textOf checkedOf andThen
+unfolding textOf andThen
 text-inside v l n s = go (stringOf v l s)
   where
     checked : (end : ℕ) (t : Bool) → utf8 (part s l end) ≡ t → (if t then Len end else Fault 0) ≡ Len n → (Len end ≡ Len n) × (utf8 (part s l n) ≡ true)

@@ -14,7 +14,7 @@ use Rattle.cbor.specs.Choice.{if_then_else_}
 use Rattle.cbor.specs.Head.{headOf}
 use Rattle.cbor.specs.Text.{utf8}
 use Rattle.cbor.specs.Order.{keyBefore}
-use Rattle.cbor.specs.Item.{part, countedFrom, readAt, andThen, stringOf, checkedOf, textOf, plainOf, isKey, keyOfKind, byHead, keyOf, nextKeyOf, elementsOf, entriesOf, nestedOf, itemOf}
+use Rattle.cbor.specs.Item.{part, countedFrom, readAt, andThen, stringOf, textOf, plainOf, isKey, keyOfKind, byHead, keyOf, nextKeyOf, elementsOf, entriesOf, nestedOf, itemOf}
 use Rattle.cbor.specs.declared.head.Kind.{Kind}
 use Rattle.cbor.specs.declared.head.Kind.the-variants.{Unsigned, Negative, Bytes, Text, Array, Map, Simple}
 use Rattle.cbor.specs.declared.head.Head.{Head}
@@ -73,7 +73,7 @@ string-within v l s h = go (leb v (length s - l)) refl
     go false e = omega arith
 
 text-within : (v l : ℕ) (s : List ℕ) → l ≤ length s → Within l (length s) (textOf v l s)
-unfolding textOf checkedOf
+unfolding textOf
 text-within v l s h = then-within l l (length s) (stringOf v l s) _ (omega arith) (string-within v l s h) (λ end a i. go (utf8 (part s l end)) end i)
   where
     go : (t : Bool) (end : ℕ) → end ≤ length s → Within end (length s) (if t then Len end else Fault 0)

@@ -1,6 +1,6 @@
 -- One step of each reader of the cycle, in the numbers it answers: what a head of each kind leads to, what a first byte alone tells, and one
 -- turn of the elements and of the entries.
-use Prim.Native.Nat.{ℕ, zero, suc, _+_, _-_, _/_, _≤_, _<_}
+use Prim.Native.Nat.{ℕ, zero, suc, _+_, _-_, _≤_, _<_}
 use mathlib.Core.Path.{_≡_, refl, sym, ap, _∙_}
 use mathlib.Core.List.{List, []}
 use mathlib.Core.Bool.{Bool, true, false}
@@ -12,8 +12,9 @@ use lib.Dec.{leb}
 use borrow.Author.Tests.{leb-true, leb-false, le-leb, lt-leb}
 use Rattle.cbor.specs.Choice.{if_then_else_}
 use Rattle.cbor.specs.Head.{firstOf, headAfter, headOf}
+use Rattle.cbor.specs.Text.{utf8}
 use Rattle.cbor.specs.Order.{keyBefore}
-use Rattle.cbor.specs.Item.{part, readAt, andThen, stringOf, checkedOf, textOf, plainOf, byHead, keyOf, Key, nextKeyOf, elementsOf, entriesOf, nestedOf, itemOf}
+use Rattle.cbor.specs.Item.{part, readAt, stringOf, textOf, plainOf, byHead, keyOf, Key, nextKeyOf, elementsOf, entriesOf, nestedOf, itemOf}
 use Rattle.cbor.specs.Answer.{faultBase, asNumber, shortLengthBy, shortLengthOf}
 use Rattle.cbor.specs.declared.head.Kind.{Kind}
 use Rattle.cbor.specs.declared.head.Kind.the-variants.{Unsigned, Negative, Bytes, Text, Array, Map, Simple}
@@ -23,8 +24,9 @@ use Rattle.cbor.specs.declared.head.Head.{Head}
 use Rattle.cbor.specs.declared.head.Head.the-variants.{Of, Bad}
 use Rattle.cbor.specs.declared.Item.{Item}
 use Rattle.cbor.specs.declared.Item.the-variants.{Len, Fault}
-use Rattle.cbor.proofs.Heads.{Shape, shape, head-none, head-some, text-major}
-use Rattle.cbor.proofs.Items.{Bounded, read-within, key-within, next-within}
+use Rattle.cbor.proofs.Firsts.{argument}
+use Rattle.cbor.proofs.Heads.{shape, head-none, head-some}
+use Rattle.cbor.proofs.Items.{Bounded, string-within, read-within, key-within, next-within}
 use Rattle.cbor.proofs.Inside.{next-key}
 use Rattle.cbor.proofs.Alone.{key-part}
 use Rattle.cbor.proofs.Numbers.{is-length, goes-on, decides, ends}
@@ -94,26 +96,11 @@ short-string i r s h e = go (leb r (length s)) refl
     go true g = rw (le-leb i (length s - 1) (omega (arith, leb-true r (length s) g)), e)
     go false g = rw (lt-leb i (length s - 1) (omega (arith, leb-false r (length s) g)))
 
--- A short item that is whole: a text is UTF-8 besides.
-abbrev wholeOf : Kind → ℕ → List ℕ → Item
-wholeOf Unsigned r s = Len r
-wholeOf Negative r s = Len r
-wholeOf Bytes r s = Len r
-wholeOf Text r s = checkedOf 1 r s
-wholeOf Array r s = Len r
-wholeOf Map r s = Len r
-wholeOf Simple r s = Len r
-
-short-plain : (k : Kind) (i r : ℕ) (s : List ℕ) → 0 < length s → 0 < r → r ≡ shortLengthBy k i → plainOf k i 1 s ≡ (if leb r (length s) then wholeOf k r s else Fault 0)
-unfolding textOf andThen
+short-plain : (k : Kind) (i r : ℕ) (s : List ℕ) → 0 < length s → 0 < r → r ≡ shortLengthBy k i → plainOf k i 1 s ≡ (if leb r (length s) then Len r else Fault 0)
 short-plain Unsigned i r s h g e = rw (le-leb r (length s) (omega arith), e)
 short-plain Negative i r s h g e = rw (le-leb r (length s) (omega arith), e)
 short-plain Bytes i r s h g e = short-string i r s h e
-short-plain Text i r s h g e = rw (short-string i r s h e) (go (leb r (length s)))
-  where
-    go : (t : Bool) → andThen (if t then Len r else Fault 0) (λ end. checkedOf 1 end s) ≡ (if t then checkedOf 1 r s else Fault 0)
-    go true = refl
-    go false = refl
+short-plain Text i r s h g e = absurd (omega arith)
 short-plain Array i r s h g e = absurd (omega arith)
 short-plain Map i r s h g e = absurd (omega arith)
 short-plain Simple i r s h g e = rw (le-leb r (length s) (omega arith), e)
@@ -122,39 +109,51 @@ short-kind : (k : Kind) (i r : ℕ) → 0 < r → r ≡ shortLengthBy k i → Pl
 short-kind Unsigned i r g e = tt
 short-kind Negative i r g e = tt
 short-kind Bytes i r g e = tt
-short-kind Text i r g e = tt
+short-kind Text i r g e = absurd (omega arith)
 short-kind Array i r g e = absurd (omega arith)
 short-kind Map i r g e = absurd (omega arith)
 short-kind Simple i r g e = tt
 
 module _ (levels r : ℕ) (s : List ℕ) (n : length s ≡ 0 → ⊥) (g : r ≡ 0 → ⊥) (e : 0 < r → r ≡ shortLengthOf (firstOf (getD s 0 0))) where
-  short : (Q : Item → Type 0) → ((k : Kind) (i : ℕ) → headOf s ≡ Of k i 1 → Q (if leb r (length s) then wholeOf k r s else Fault 0)) → Q (itemOf levels s)
+  short : itemOf levels s ≡ (if leb r (length s) then Len r else Fault 0)
   unfolding headAfter
-  short Q w = go (firstOf (getD s 0 0)) (head-some s n) (e (pos-of-ne-zero g))
+  short = go (firstOf (getD s 0 0)) (head-some s n) (e (pos-of-ne-zero g))
     where
-      go : (x : First) → headOf s ≡ headAfter x s → r ≡ shortLengthOf x → Q (itemOf levels s)
-      go (Argument k i) h q = rw (plain levels s refl h refl (short-kind k i r (pos-of-ne-zero g) q) ∙ short-plain k i r s (pos-of-ne-zero n) (pos-of-ne-zero g) q) (w k i h)
+      go : (x : First) → headOf s ≡ headAfter x s → r ≡ shortLengthOf x → itemOf levels s ≡ (if leb r (length s) then Len r else Fault 0)
+      go (Argument k i) h q = plain levels s refl h refl (short-kind k i r (pos-of-ne-zero g) q) ∙ short-plain k i r s (pos-of-ne-zero n) (pos-of-ne-zero g) q
       go (Form k f) h q = absurd (g q)
       go Refused h q = absurd (g q)
 
+  pub short-whole : r ≤ length s → r ≡ asNumber (itemOf levels s)
+  short-whole l = rw (short, le-leb r (length s) l)
+
   pub short-cut : length s < r → faultBase ≡ asNumber (itemOf levels s)
-  short-cut l = short (λ x. faultBase ≡ asNumber x) (λ k i h. rw (lt-leb r (length s) l))
+  short-cut l = rw (short, lt-leb r (length s) l)
 
-  -- A text is told from the others by its major type.
-  pub short-whole : r ≤ length s → (getD s 0 0 / 32 ≡ 3 → ⊥) → r ≡ asNumber (itemOf levels s)
-  short-whole l t = short (λ x. r ≡ asNumber x) (λ k i h. rw (le-leb r (length s) l) (go k (shape s h)))
-    where
-      go : (k : Kind) {i : ℕ} → Shape (getD s 0 0) s k i 1 → r ≡ asNumber (wholeOf k r s)
-      go Unsigned w = refl
-      go Negative w = refl
-      go Bytes w = refl
-      go Text w = absurd (t (text-major (getD s 0 0) s w))
-      go Array w = refl
-      go Map w = refl
-      go Simple w = refl
+-- A short text: its first byte tells where it ends.
+pub short-text : (levels : ℕ) (s : List ℕ) → (length s ≡ 0 → ⊥) → 0x60 ≤ getD s 0 0 → getD s 0 0 ≤ 0x77 → textOf (getD s 0 0 - 0x60) 1 s ≡ itemOf levels s
+unfolding headAfter
+short-text levels s n l g = sym (plain levels s refl {k = Text} {v = getD s 0 0 - 0x60} {l = 1} head refl tt)
+  where
+    head : headOf s ≡ Of Text (getD s 0 0 - 0x60) 1
+    head = head-some s n ∙ rw (← argument 3 (getD s 0 0 - 0x60) (getD s 0 0) (omega arith) (omega arith) (omega arith))
 
-  pub short-text : r ≤ length s → getD s 0 0 / 32 ≡ 3 → checkedOf 1 r s ≡ itemOf levels s
-  short-text l t = short (λ x. checkedOf 1 r s ≡ x) (λ k i h. rw (le-leb r (length s) l, shape s h .kind (omega arith), t))
+-- A text: as a string it ends at the number r.
+module _ (v l : ℕ) (s : List ℕ) {r : ℕ} (e : r ≡ asNumber (stringOf v l s)) where
+  pub text-stop : l ≤ length s → length s < faultBase → faultBase ≤ r → r ≡ asNumber (textOf v l s)
+  unfolding textOf
+  text-stop h b g = decides l (length s) (stringOf v l s) _ (string-within v l s h) b e g
+
+  pub text-fits : l ≤ length s → r < faultBase → (l ≤ r) × (r ≤ length s)
+  text-fits h g = ends l (length s) (stringOf v l s) (string-within v l s h) e g
+
+  pub text-good : r < faultBase → utf8 (part s l r) ≡ true → textOf v l s ≡ Len r
+  unfolding textOf
+  text-good g u = goes-on (stringOf v l s) _ e g ∙ rw u
+
+  pub text-bad : r < faultBase → utf8 (part s l r) ≡ false → textOf v l s ≡ Fault 0
+  unfolding textOf
+  text-bad g u = goes-on (stringOf v l s) _ e g ∙ rw u
 
 -- What was read as a key is one, and so is the next key.
 pub read-is-key : (s : List ℕ) (at : ℕ) {r : ℕ} → r ≡ asNumber (readAt keyOf s at) → r < faultBase → Key (part s at r)

@@ -26,12 +26,12 @@ asNumber (Fault p) = faultBase + p
 abbrev pub fromNumber : ℕ → Item
 fromNumber n = if ltb n faultBase then Len n else Fault (n - faultBase)
 
--- The length of an item whose first byte alone tells it, by kind and argument; 0 for any other.
+-- The length of an item of which the first byte tells all, by kind and argument; 0 for any other.
 abbrev pub shortLengthBy : Kind → ℕ → ℕ
 shortLengthBy Unsigned i = 1
 shortLengthBy Negative i = 1
 shortLengthBy Bytes i = 1 + i
-shortLengthBy Text i = 1 + i
+shortLengthBy Text i = 0
 shortLengthBy Array i = 0
 shortLengthBy Map i = 0
 shortLengthBy Simple i = 1

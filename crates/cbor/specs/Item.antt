@@ -36,13 +36,9 @@ andThen (Fault p) g = Fault p
 unfoldable pub stringOf : ℕ → ℕ → List ℕ → Item
 stringOf v l s = if leb v (length s - l) then Len (l + v) else Fault 0
 
--- The content of a text, which stands from l up to end, is UTF-8.
-unfoldable pub checkedOf : ℕ → ℕ → List ℕ → Item
-checkedOf l end s = if utf8 (part s l end) then Len end else Fault 0
-
 -- A text is a string that is UTF-8. The fault of one that is not is the item's.
 unfoldable pub textOf : ℕ → ℕ → List ℕ → Item
-textOf v l s = andThen (stringOf v l s) (λ end. checkedOf l end s)
+textOf v l s = andThen (stringOf v l s) (λ end. if utf8 (part s l end) then Len end else Fault 0)
 
 -- An item that holds no other. An array or a map needs a level, even an empty one.
 abbrev pub plainOf : Kind → ℕ → ℕ → List ℕ → Item

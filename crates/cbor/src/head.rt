@@ -106,7 +106,7 @@ fn shortest(k: Kind, argument: u64, least: u64, len: usize) -> Head
     }
 }
 
-// The length of a short item, one whose first byte alone tells it: a small number, a simple value, a short string. 0 for any other.
+// The length of a short item, one that its first byte tells all of: a small number, a simple value, a short byte string. 0 for any other.
 pub(crate) fn short_length(b: u8) -> usize
     ensures { λ r. ⌜ (0 < r → r ≡ shortLengthOf (firstOf b)) ⌝ }
 {
@@ -114,7 +114,6 @@ pub(crate) fn short_length(b: u8) -> usize
         0x00..=0x17 => 1,
         0x20..=0x37 => 1,
         0x40..=0x57 => bytes::wide(b - 0x3f) as usize,
-        0x60..=0x77 => bytes::wide(b - 0x5f) as usize,
         0xf4..=0xf7 => 1,
         _ => 0,
     }

@@ -5,7 +5,7 @@ ghost use mathlib.Core.Path.{_≡_};
 ghost use Prim.Native.Nat.{_≤_};
 ghost use mathlib.Core.List.{[]};
 ghost use lib.ListN.{length};
-ghost use Rattle.cbor.specs.Item.{part, stringOf, checkedOf, textOf, keyOf, nextKeyOf, elementsOf, entriesOf, itemOf};
+ghost use Rattle.cbor.specs.Item.{part, stringOf, textOf, keyOf, nextKeyOf, elementsOf, entriesOf, itemOf};
 ghost use Rattle.cbor.specs.Answer.{asNumber, KeyOrNone};
 use crate::head;
 use crate::head::Head;
@@ -44,25 +44,23 @@ pub(crate) fn extent_by_head(msg: &[u8], levels: u8) -> usize
     }
 }
 
-// The same, a short item by its first byte alone. It stays small, so that it is compiled into the loops below and most items need no call.
+// The same, a short item by its first byte alone: its length, and of a text where it ends. It stays small, so that it is compiled into the
+// loops below and most items need no call.
 fn extent(msg: &[u8], levels: u8) -> usize
     ensures { λ r. ⌜ r ≡ asNumber (itemOf levels (now (msg .entry))) ⌝ }
 {
     if msg.len() == 0 {
         return FAULT;
     }
-    let n = head::short_length(msg[0]);
+    let first = msg[0];
+    let n = head::short_length(first);
     if n == 0 {
+        if 0x60 <= first && first <= 0x77 {
+            return text(msg, (first - 0x60) as u64, 1);
+        }
         return extent_by_head(msg, levels);
     }
-    if msg.len() < n {
-        return FAULT;
-    }
-    // The major type of a text is 3.
-    if msg[0] / 32 == 3 {
-        return checked(msg, 1, n);
-    }
-    n
+    if n <= msg.len() { n } else { FAULT }
 }
 
 // A map's key: an integer, a byte or a text string, so an item that needs no level.
@@ -100,14 +98,6 @@ fn text(msg: &[u8], count: u64, start: usize) -> usize
     if end >= FAULT {
         return end;
     }
-    checked(msg, start, end)
-}
-
-// The end of a text that stands from start up to end, if it is UTF-8.
-fn checked(msg: &[u8], start: usize, end: usize) -> usize
-    requires { ⌜ (start ≤ end) × (end ≤ length (now msg)) ⌝ }
-    ensures { λ r. ⌜ r ≡ asNumber (checkedOf start end (now (msg .entry))) ⌝ }
-{
     if utf8::is_utf8(&msg[start..end]) {
         end
     } else {

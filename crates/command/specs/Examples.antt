@@ -6,7 +6,7 @@ use lib.ListN.{replicate}
 use Rattle.cbor.specs.Head.{firstOf, majorOf, argumentOf, simpleOf, shortestOf, longHead, headInForm, headAfter, headOf}
 use Rattle.cbor.specs.Text.{begunBy, octetsAfter, utf8}
 use Rattle.cbor.specs.Order.{bytesBefore, keyBefore}
-use Rattle.cbor.specs.Item.{andThen, countedFrom, readAt, stringOf, checkedOf, textOf, byHead, keyOfKind, keyOf, nextKeyOf, elementsOf, entriesOf, itemOf}
+use Rattle.cbor.specs.Item.{andThen, countedFrom, readAt, stringOf, textOf, byHead, keyOfKind, keyOf, nextKeyOf, elementsOf, entriesOf, itemOf}
 use Rattle.command.specs.declared.Checked.{Checked}
 use Rattle.command.specs.declared.Checked.the-variants.{Info, Good, Refused}
 use Rattle.command.specs.Map.{argumentIn, after, placesAt, entriesAt, counted, arrayAt, mapAt, sameBytes, valueOf, onFound}
@@ -57,5 +57,5 @@ answers [] = []
 answers (s ∷ ss) = checkOf s ∷ answers ss
 
 pub examples : answers messages ≡ Refused 0x03 ∷ Info ∷ Refused 0x03 ∷ Refused 0x01 ∷ Refused 0x12 ∷ Refused 0x14 ∷ Refused 0x12 ∷ Refused 0x12 ∷ Refused 0x14 ∷ Good 8 ∷ Refused 0x03 ∷ Good 5 ∷ Refused 0x26 ∷ Refused 0x26 ∷ []
-unfolding messages answers itemOf byHead entriesOf elementsOf nextKeyOf keyOf keyOfKind textOf checkedOf utf8 octetsAfter begunBy stringOf readAt countedFrom andThen keyBefore bytesBefore headOf headAfter headInForm longHead shortestOf firstOf majorOf argumentOf simpleOf argumentIn after placesAt entriesAt counted arrayAt mapAt sameBytes valueOf onFound hashValue minusSeven isPublicKey oursOf typeOf algOf entryOf inTurn algorithmsOf contentOf parameterOf throughOf requiredOf absentOf shownOf goodOf settledOf oneMap parametersOf commandOf checkOf
+unfolding messages answers itemOf byHead entriesOf elementsOf nextKeyOf keyOf keyOfKind textOf utf8 octetsAfter begunBy stringOf readAt countedFrom andThen keyBefore bytesBefore headOf headAfter headInForm longHead shortestOf firstOf majorOf argumentOf simpleOf argumentIn after placesAt entriesAt counted arrayAt mapAt sameBytes valueOf onFound hashValue minusSeven isPublicKey oursOf typeOf algOf entryOf inTurn algorithmsOf contentOf parameterOf throughOf requiredOf absentOf shownOf goodOf settledOf oneMap parametersOf commandOf checkOf
 examples = refl

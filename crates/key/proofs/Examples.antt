@@ -6,7 +6,7 @@ use Rattle.wire.specs.Packet.{packets, bytes4, bytes2, filled, channelOf, opens
 use Rattle.cbor.specs.Head.{firstOf, majorOf, argumentOf, simpleOf, shortestOf, longHead, headInForm, headAfter, headOf}
 use Rattle.cbor.specs.Text.{begunBy, octetsAfter, utf8}
 use Rattle.cbor.specs.Order.{bytesBefore, keyBefore}
-use Rattle.cbor.specs.Item.{andThen, countedFrom, readAt, stringOf, checkedOf, textOf, byHead, keyOfKind, keyOf, nextKeyOf, elementsOf, entriesOf, itemOf}
+use Rattle.cbor.specs.Item.{andThen, countedFrom, readAt, stringOf, textOf, byHead, keyOfKind, keyOf, nextKeyOf, elementsOf, entriesOf, itemOf}
 use Rattle.command.specs.Map.{argumentIn, after, placesAt, entriesAt, counted, arrayAt, mapAt, sameBytes, valueOf, onFound}
 use Rattle.command.specs.Algorithms.{inTurn}
 use Rattle.command.specs.Parameters.{parameterOf, throughOf, requiredOf, absentOf}
@@ -19,7 +19,7 @@ use Rattle.key.specs.Examples.{P}
 
 pub examples : P
 unfolding overwrite packetsNeeded begins room carries cut put packets bytes4 bytes2 filled channelOf opens commandOf lengthOf numberOf packetOf errorOn initReply
-    firstOf majorOf argumentOf simpleOf shortestOf longHead headInForm headAfter headOf begunBy octetsAfter utf8 bytesBefore keyBefore andThen countedFrom readAt stringOf checkedOf textOf byHead keyOfKind keyOf nextKeyOf elementsOf entriesOf itemOf
+    firstOf majorOf argumentOf simpleOf shortestOf longHead headInForm headAfter headOf begunBy octetsAfter utf8 bytesBefore keyBefore andThen countedFrom readAt stringOf textOf byHead keyOfKind keyOf nextKeyOf elementsOf entriesOf itemOf
     argumentIn after placesAt entriesAt counted arrayAt mapAt sameBytes valueOf onFound inTurn parameterOf throughOf requiredOf absentOf shownOf goodOf settledOf oneMap parametersOf checkCommand checkOf
     _⇒_else_ all known starts toCore messageInOrder phaseInOrder inOrder ifHolder standingOf badLength openingRows carriedOut opening packetRows lent rows step
 examples = (refl, refl, refl, refl, refl, refl, refl, refl, refl, refl, refl, refl, refl, refl)

@@ -6,8 +6,9 @@ use mathlib.Core.Logic.{inl, inr}
 use mathlib.Core.List.{List, []}
 use native.Mathlib.Omega.{arith}
 use native.Mathlib.Nat.{pos-of-ne-zero}
-use lib.ListN.{length}
+use lib.ListN.{length, getD}
 use borrow.Author.Needs.{needs}
+use borrow.Author.Tests.{leb-true}
 use borrow.Fn.Kinds.{In}
 use borrow.Fn.PlainCycle.{Measures, is, falls, and}
 use Rattle.cbor.specs.Item.{part, keyOf, elementsOf, entriesOf, itemOf}
@@ -38,7 +39,6 @@ use Rattle.cbor.proofs.head.read_head.Reads as read-head-reads
 use Rattle.cbor.proofs.head.short_length.Reads as short-length-reads
 use Rattle.cbor.proofs.reader.string.Reads as string-reads
 use Rattle.cbor.proofs.reader.text.Reads as text-reads
-use Rattle.cbor.proofs.reader.checked.Reads as checked-reads
 use Rattle.cbor.proofs.reader.+elements+entries+extent+extent_by_head+key_extent+next_key.{statement}
 use Rattle.cbor.proofs.reader.+elements+entries+extent+extent_by_head+key_extent+next_key.Tie.{close}
 
@@ -120,7 +120,7 @@ module _ (t : ℕ) where
   entries-calls = (next-key-below, next-key.Post, extent-below, extent.Post)
 
   abbrev extent-calls : extent-lts.Claims
-  extent-calls = (short-length-reads.Asked, short-length-reads.Learnt, extent-by-head-below, extent-by-head.Post, checked-reads.Asked, checked-reads.Learnt)
+  extent-calls = (short-length-reads.Asked, short-length-reads.Learnt, text-reads.Asked, text-reads.Learnt, extent-by-head-below, extent-by-head.Post)
 
   abbrev extent-by-head-calls : extent-by-head-lts.Claims
   extent-by-head-calls = (read-head-reads.Asked, read-head-reads.Learnt, string-reads.Asked, string-reads.Learnt, text-reads.Asked, text-reads.Learnt, elements-below, elements.Post, entries-below, entries.Post)
@@ -188,20 +188,23 @@ module _ (t : ℕ) where
   extent-returns : extent-lts.Need-returns extent-calls extent-at extent.Post
   extent-returns c = sym (ap asNumber (item-none _ _ (c .if1 .taken)))
 
+  extent-cast-text : extent-lts.Need-cast-text extent-calls extent-at extent.Post
+  extent-cast-text c = omega (arith, leb-true (getD (c .before .before .before .before .before .before .before .args .msg .now) 0 0) 0x77 (c .if4 .taken))
+
+  extent-text-requires : extent-lts.Need-text-requires extent-calls extent-at extent.Post
+  extent-text-requires c κs = pos-of-ne-zero (c .before .before .before .before .before .if1 .left)
+
   extent-returns-2 : extent-lts.Need-returns-2 extent-calls extent-at extent.Post
-  extent-returns-2 c = c .extent-by-head .ensures
+  extent-returns-2 c = c .text .ensures ∙ ap asNumber (short-text _ _ (c .before .before .before .before .before .before .if1 .left) (c .before .before .if3 .taken) (leb-true _ _ (c .before .if4 .taken)))
 
   extent-returns-3 : extent-lts.Need-returns-3 extent-calls extent-at extent.Post
-  extent-returns-3 c = short-cut _ _ _ (c .before .before .before .before .if1 .left) (c .before .if2 .left) (c .before .before .short-length .ensures) (c .if3 .taken)
-
-  extent-checked-requires : extent-lts.Need-checked-requires extent-calls extent-at extent.Post
-  extent-checked-requires c κs = (pos-of-ne-zero (c .before .before .before .if2 .left), omega arith)
+  extent-returns-3 c = c .extent-by-head .ensures
 
   extent-returns-4 : extent-lts.Need-returns-4 extent-calls extent-at extent.Post
-  extent-returns-4 c = c .checked .ensures ∙ ap asNumber (short-text _ _ _ (c .before .before .before .before .before .before .before .if1 .left) (c .before .before .before .before .if2 .left) (c .before .before .before .before .before .short-length .ensures) (c .before .before .before .if3 .left) (c .before .if4 .taken))
+  extent-returns-4 c = short-whole _ _ _ (c .before .before .before .before .if1 .left) (c .before .if2 .left) (c .before .before .short-length .ensures) (c .if5 .taken)
 
   extent-returns-5 : extent-lts.Need-returns-5 extent-calls extent-at extent.Post
-  extent-returns-5 c = short-whole _ _ _ (c .before .before .before .before .before .before .if1 .left) (c .before .before .before .if2 .left) (c .before .before .before .before .short-length .ensures) (c .before .before .if3 .left) (c .if4 .left)
+  extent-returns-5 c = short-cut _ _ _ (c .before .before .before .before .if1 .left) (c .before .if2 .left) (c .before .before .short-length .ensures) (c .if5 .left)
 
   extent-by-head-string-requires : extent-by-head-lts.Need-string-requires extent-by-head-calls extent-by-head-at extent-by-head.Post
   extent-by-head-string-requires c κs = starts-within _ (c .before .before .before .before .before .read-head .ensures) (c .before .before .before .head .given .1)
@@ -305,11 +308,11 @@ pub +elements+entries+extent+extent-by-head+key-extent+next-key-spec : {M : Type
     (extent-returns t)
     (λ c. search needs)
     (λ c κs. search needs)
-    (λ c κs. search needs)
+    (extent-cast-text t)
+    (extent-text-requires t)
     (extent-returns-2 t)
+    (λ c κs. search needs)
     (extent-returns-3 t)
-    (λ c. search needs)
-    (extent-checked-requires t)
     (extent-returns-4 t)
     (extent-returns-5 t))
     (λ t. extent-by-head-lts.spec (extent-by-head-calls t) (extent-by-head-at t) extent-by-head.Post

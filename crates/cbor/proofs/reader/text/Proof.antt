@@ -1,24 +1,29 @@
--- A string that is there is checked.
+-- A string that is there is a text if it is UTF-8.
 use mathlib.Core.Path.{sym, ap, _∙_}
 use native.Mathlib.Omega.{arith}
 use borrow.Author.Needs.{needs}
-use Rattle.cbor.specs.Item.{stringOf, textOf}
 use Rattle.cbor.specs.Answer.{asNumber}
-use Rattle.cbor.proofs.Items.{string-within}
-use Rattle.cbor.proofs.Numbers.{goes-on, decides, ends}
+use Rattle.cbor.proofs.Readers.{text-stop, text-fits, text-good, text-bad}
 use Rattle.cbor.proofs.reader.text.Statement.{statement}
 use Rattle.cbor.proofs.reader.text.Tie as tie
 
 returns : tie.Need-returns
-unfolding textOf
-returns c = let a = c .before .before .before .args in decides (a .start) _ (stringOf (a .count) (a .start) (a .msg .now)) _ (string-within (a .count) (a .start) (a .msg .now) (omega arith)) (omega arith) (c .before .string .ensures) (c .if1 .taken)
+returns c = text-stop _ _ _ (c .before .string .ensures) (omega arith) (omega arith) (c .if1 .taken)
 
-checked-requires : tie.Need-checked-requires
-checked-requires c κs = let a = c .before .before .before .args in ends (a .start) _ (stringOf (a .count) (a .start) (a .msg .now)) (string-within (a .count) (a .start) (a .msg .now) (omega arith)) (c .before .string .ensures) (c .if1 .left)
+sub-is-utf8 : tie.Need-sub-is-utf8
+sub-is-utf8 c = omega (arith, text-fits _ _ _ (c .before .string .ensures) (omega arith) (c .if1 .left))
+
+part-is-utf8-start : tie.Need-part-is-utf8-start
+part-is-utf8-start c = text-fits _ _ _ (c .before .string .ensures) (omega arith) (c .if1 .left) .0
+
+part-is-utf8-end : tie.Need-part-is-utf8-end
+part-is-utf8-end c = text-fits _ _ _ (c .before .string .ensures) (omega arith) (c .if1 .left) .1
 
 returns-2 : tie.Need-returns-2
-unfolding textOf
-returns-2 c = let a = c .before .before .before .before .args in c .checked .ensures ∙ sym (ap asNumber (goes-on (stringOf (a .count) (a .start) (a .msg .now)) _ (c .before .before .string .ensures) (c .before .if1 .left)))
+returns-2 c = sym (ap asNumber (text-good _ _ _ (c .before .before .before .before .string .ensures) (c .before .before .before .if1 .left) (sym (c .before .is-utf8 .ensures) ∙ c .if2 .taken)))
+
+returns-3 : tie.Need-returns-3
+returns-3 c = sym (ap asNumber (text-bad _ _ _ (c .before .before .before .before .string .ensures) (c .before .before .before .if1 .left) (sym (c .before .is-utf8 .ensures) ∙ c .if2 .left)))
 
 pub text-spec : {M : Type 1} → statement M
-text-spec = tie.close (tie.spec (λ c κs. search needs) returns checked-requires returns-2)
+text-spec = tie.close (tie.spec (λ c κs. search needs) returns sub-is-utf8 part-is-utf8-start part-is-utf8-end (λ c κs. search needs) returns-2 returns-3)
