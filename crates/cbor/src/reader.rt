@@ -101,7 +101,7 @@ fn text(msg: &[u8], count: u64, start: usize) -> usize
     if utf8::is_utf8(&msg[start..end]) {
         end
     } else {
-        FAULT
+        FAULT // no text
     }
 }
 
