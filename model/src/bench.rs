@@ -3,7 +3,7 @@
 use std::io::{self, BufRead, Read, Write};
 
 use crate::cbor;
-use crate::command;
+use crate::command::{self, Fault};
 use crate::key::{Answer, Key, Message, Refusal, Transaction};
 use crate::line::{self, Line, LONGEST_LINE, MESSAGE_BUFFER, REPLY_BUFFER};
 use crate::packet::{LONGEST, PACKET};
@@ -148,7 +148,7 @@ pub fn state(key: &Key) -> String {
 /// The checking call's answer, with the place of the hash in the message.
 fn check(message: &[u8], out: &mut Vec<u8>) {
     let answer = match command::check(message) {
-        Err(status) => format!("status {:02x}\n", status as u8),
+        Err(fault) => refused(fault),
         Ok(good) if good.hash.is_empty() => "good\n".to_string(),
         Ok(good) => {
             // The hash is a part of the message, so its place is the distance of the two.
@@ -163,9 +163,14 @@ fn check(message: &[u8], out: &mut Vec<u8>) {
 fn item(levels: u8, bytes: &[u8], out: &mut Vec<u8>) {
     let answer = match cbor::item_length(bytes, levels) {
         Ok(length) => format!("item {length}\n"),
-        Err(breach) => format!("status {:02x}\n", command::Status::from(breach) as u8),
+        Err(breach) => refused(breach.into()),
     };
     out.extend_from_slice(answer.as_bytes());
+}
+
+/// What a message or an item gets that is refused: the status, and where it is wrong.
+fn refused(fault: Fault) -> String {
+    format!("status {:02x} at {}\n", fault.status as u8, fault.place)
 }
 
 /// Reads the next line without its end; false at the end of input. Of a line that is too long it
@@ -200,11 +205,23 @@ mod tests {
     fn examples_of_document_01() {
         assert_eq!(
             answers("item 4 81818180\nitem 4 8181818180\nitem 4 a21818006000\n"),
-            "item 4\nstatus 12\nitem 6\n"
+            "item 4\nstatus 12 at 4\nitem 6\n"
         );
         assert_eq!(
             answers("check 04\ncheck 04a0\ncheck 01a0\n"),
-            "good\nstatus 03\nstatus 14\n"
+            "good\nstatus 03 at 1\nstatus 14 at 1\n"
+        );
+    }
+
+    #[test]
+    fn places_count_from_the_command_byte_or_the_item() {
+        assert_eq!(
+            answers("check 02a1006161ff\nitem 4 a1006161ff\ncheck 02a10061ff\nitem 4 a10061ff\n"),
+            "status 12 at 5\nitem 4\nstatus 12 at 3\nstatus 12 at 2\n"
+        );
+        assert_eq!(
+            answers("check\nitem 4\n"),
+            "status 03 at 0\nstatus 12 at 0\n"
         );
     }
 

@@ -8,6 +8,11 @@ const MAKE_CREDENTIAL: u8 = 0x01;
 const GET_ASSERTION: u8 = 0x02;
 const GET_INFO: u8 = 0x04;
 
+/// The place of the command byte, and of what is wrong with a message as a whole.
+const COMMAND: usize = 0;
+/// The place of what follows the command byte.
+const PARAMETERS: usize = 1;
+
 /// Bytes in a client data hash.
 pub const HASH: usize = 32;
 
@@ -27,9 +32,27 @@ pub enum Status {
     Cancelled = 0x2D,
 }
 
-impl From<Breach> for Status {
-    fn from(Breach: Breach) -> Self {
-        Status::InvalidCbor
+/// Why a command does not go to the core, and where it is wrong. The host is told the status alone.
+#[derive(Clone, Copy, Debug, PartialEq, Eq)]
+pub struct Fault {
+    pub status: Status,
+    /// Counted in the message, whose command byte is place 0.
+    pub place: usize,
+}
+
+impl Status {
+    /// The fault of what stands at this place.
+    fn at(self, place: usize) -> Fault {
+        Fault {
+            status: self,
+            place,
+        }
+    }
+}
+
+impl From<Breach> for Fault {
+    fn from(breach: Breach) -> Self {
+        Status::InvalidCbor.at(breach.place)
     }
 }
 
@@ -41,17 +64,17 @@ pub struct Good<'a> {
 }
 
 /// Checks a whole command.
-pub fn check(message: &[u8]) -> Result<Good<'_>, Status> {
+pub fn check(message: &[u8]) -> Result<Good<'_>, Fault> {
     if message.len() > LONGEST {
-        return Err(Status::InvalidLength);
+        return Err(Status::InvalidLength.at(COMMAND));
     }
-    let (&command, parameters) = message.split_first().ok_or(Status::InvalidLength)?;
-    match command {
-        GET_INFO if parameters.is_empty() => Ok(Good { hash: &[] }),
-        GET_INFO => Err(Status::InvalidLength),
-        MAKE_CREDENTIAL => check_parameters(parameters, &MAKE_CREDENTIAL_PARAMETERS),
-        GET_ASSERTION => check_parameters(parameters, &GET_ASSERTION_PARAMETERS),
-        _ => Err(Status::InvalidCommand),
+    match *message {
+        [] => Err(Status::InvalidLength.at(COMMAND)),
+        [GET_INFO] => Ok(Good { hash: &[] }),
+        [GET_INFO, ..] => Err(Status::InvalidLength.at(PARAMETERS)),
+        [MAKE_CREDENTIAL, ..] => check_parameters(message, &MAKE_CREDENTIAL_PARAMETERS),
+        [GET_ASSERTION, ..] => check_parameters(message, &GET_ASSERTION_PARAMETERS),
+        [_, ..] => Err(Status::InvalidCommand.at(COMMAND)),
     }
 }
 
@@ -111,11 +134,12 @@ static GET_ASSERTION_PARAMETERS: [Parameter; 7] = [
 
 /// Checks the one map after the command byte: every breach of the canonical form first, then the
 /// first fault of a known key, then what is absent, then the algorithms.
-fn check_parameters<'a>(bytes: &'a [u8], known: &[Parameter]) -> Result<Good<'a>, Status> {
-    let mut reader = Reader::new(bytes);
+fn check_parameters<'a>(message: &'a [u8], known: &[Parameter]) -> Result<Good<'a>, Fault> {
+    let mut reader = Reader::new(message, PARAMETERS);
     let map = reader.head()?;
+    // What stands in an outer item that is no map is not looked at.
     if map.kind != Kind::Map {
-        return Err(Status::InvalidCbor);
+        return Err(Status::InvalidCbor.at(map.place));
     }
     let mut found = Found::default();
     reader.map(map, LEVELS, |reader, key, levels| {
@@ -124,9 +148,7 @@ fn check_parameters<'a>(bytes: &'a [u8], known: &[Parameter]) -> Result<Good<'a>
             None => reader.skip(levels),
         }
     })?;
-    if !reader.at_end() {
-        return Err(Status::InvalidCbor);
-    }
+    reader.finish()?;
     found.verdict(known)
 }
 
@@ -144,12 +166,12 @@ fn known_index(key: &[u8], known: &[Parameter]) -> Option<usize> {
 /// order too, so the fault that is found first decides.
 #[derive(Default)]
 struct Found<'a> {
-    fault: Option<Status>,
+    fault: Option<Fault>,
     /// Bit `index` is set where the known key of that index is present.
     present: u16,
     hash: &'a [u8],
-    /// Set by key 4 alone: whether one of its entries is an algorithm the key has.
-    supported: Option<bool>,
+    /// The place of key 4's array, as long as none of its entries is an algorithm the key has.
+    unsupported: Option<usize>,
 }
 
 impl<'a> Found<'a> {
@@ -164,14 +186,16 @@ impl<'a> Found<'a> {
         self.present |= 1 << index;
         match expected {
             Value::Of(kind) => {
-                let item = reader.item(levels)?;
-                self.require(item.head.kind == kind, Status::UnexpectedKind);
+                let head = reader.item(levels)?.head;
+                self.require(head.kind == kind, Status::UnexpectedKind.at(head.place));
             }
             Value::Hash => {
-                let item = reader.item(levels)?;
-                self.require(item.head.kind == Kind::Bytes, Status::UnexpectedKind);
-                self.require(item.content.len() == HASH, Status::InvalidLength);
-                self.hash = item.content;
+                let Item { head, content } = reader.item(levels)?;
+                let kind = Status::UnexpectedKind.at(head.place);
+                self.require(head.kind == Kind::Bytes, kind);
+                let length = Status::InvalidLength.at(head.place);
+                self.require(content.len() == HASH, length);
+                self.hash = content;
             }
             Value::Algorithms => self.algorithms(reader, levels)?,
         }
@@ -180,12 +204,12 @@ impl<'a> Found<'a> {
 
     /// Reads MakeCredential's key 4, entry by entry.
     fn algorithms(&mut self, reader: &mut Reader<'a>, levels: u8) -> Result<(), Breach> {
-        self.supported = Some(false);
         let head = reader.head()?;
         if head.kind != Kind::Array {
-            self.require(false, Status::UnexpectedKind);
+            self.require(false, Status::UnexpectedKind.at(head.place));
             return reader.skip_content(head, levels);
         }
+        self.unsupported = Some(head.place);
         reader.array(head, levels, |reader, levels| {
             self.algorithm(reader, levels)
         })
@@ -195,10 +219,14 @@ impl<'a> Found<'a> {
     fn algorithm(&mut self, reader: &mut Reader<'a>, levels: u8) -> Result<(), Breach> {
         let head = reader.head()?;
         if head.kind != Kind::Map {
-            self.require(false, Status::UnexpectedKind);
+            self.require(false, Status::UnexpectedKind.at(head.place));
             return reader.skip_content(head, levels);
         }
-        let mut entry = Entry::default();
+        let mut entry = Entry {
+            place: head.place,
+            alg: None,
+            kind: None,
+        };
         reader.map(head, levels, |reader, key, levels| {
             let value = reader.item(levels)?;
             match key {
@@ -209,7 +237,7 @@ impl<'a> Found<'a> {
             Ok(())
         })?;
         match entry.is_supported() {
-            Ok(true) => self.supported = Some(true),
+            Ok(true) => self.unsupported = None,
             Ok(false) => {}
             Err(fault) => self.require(false, fault),
         }
@@ -217,45 +245,46 @@ impl<'a> Found<'a> {
     }
 
     /// Notes a fault where a rule does not hold, unless one came before it.
-    fn require(&mut self, holds: bool, fault: Status) {
+    fn require(&mut self, holds: bool, fault: Fault) {
         if !holds {
             self.fault.get_or_insert(fault);
         }
     }
 
-    fn verdict(self, known: &[Parameter]) -> Result<Good<'a>, Status> {
+    fn verdict(self, known: &[Parameter]) -> Result<Good<'a>, Fault> {
         if let Some(fault) = self.fault {
             return Err(fault);
         }
         for (index, parameter) in known.iter().enumerate() {
             if parameter.required && self.present & 1 << index == 0 {
-                return Err(Status::MissingParameter);
+                return Err(Status::MissingParameter.at(PARAMETERS));
             }
         }
-        if self.supported == Some(false) {
-            return Err(Status::UnsupportedAlgorithm);
+        if let Some(place) = self.unsupported {
+            return Err(Status::UnsupportedAlgorithm.at(place));
         }
         Ok(Good { hash: self.hash })
     }
 }
 
 /// What an entry of key 4 says.
-#[derive(Default)]
 struct Entry<'a> {
+    place: usize,
     alg: Option<Item<'a>>,
     kind: Option<Item<'a>>,
 }
 
 impl Entry<'_> {
     /// Whether the entry is "alg" -7 and "type" "public-key"; "alg" is looked at before "type".
-    fn is_supported(&self) -> Result<bool, Status> {
-        let alg = self.alg.ok_or(Status::MissingParameter)?.head;
+    fn is_supported(&self) -> Result<bool, Fault> {
+        let absent = Status::MissingParameter.at(self.place);
+        let alg = self.alg.ok_or(absent)?.head;
         if !matches!(alg.kind, Kind::Unsigned | Kind::Negative) {
-            return Err(Status::UnexpectedKind);
+            return Err(Status::UnexpectedKind.at(alg.place));
         }
-        let kind = self.kind.ok_or(Status::MissingParameter)?;
+        let kind = self.kind.ok_or(absent)?;
         if kind.head.kind != Kind::Text {
-            return Err(Status::UnexpectedKind);
+            return Err(Status::UnexpectedKind.at(kind.head.place));
         }
         let minus_seven = alg.kind == Kind::Negative && alg.argument == MINUS_SEVEN;
         Ok(minus_seven && kind.content == b"public-key")
@@ -265,6 +294,9 @@ impl Entry<'_> {
 #[cfg(test)]
 mod tests {
     use super::*;
+
+    /// The place of key 4's value in a [`make_credential`].
+    const ALGORITHMS: usize = 5 + HASH + 5;
 
     /// A MakeCredential whose key 4 is `algorithms`.
     fn make_credential(algorithms: &[u8]) -> Vec<u8> {
@@ -283,27 +315,48 @@ mod tests {
         make_credential(&entry)
     }
 
+    /// What the checking call gives where it finds this fault.
+    fn fault(status: Status, place: usize) -> Result<Good<'static>, Fault> {
+        Err(Fault { status, place })
+    }
+
     #[test]
     fn examples_of_document_01() {
         assert_eq!(check(&[0x04]), Ok(Good { hash: &[] }));
-        assert_eq!(check(&[0x04, 0xA0]), Err(Status::InvalidLength));
-        assert_eq!(check(&[0x01, 0xA0]), Err(Status::MissingParameter));
-        for map in [&[0xA1, 0x18, 0x01, 0x00][..], &[0xA2, 0, 0, 0, 0]] {
+        assert_eq!(check(&[0x04, 0xA0]), fault(Status::InvalidLength, 1));
+        assert_eq!(check(&[0x01, 0xA0]), fault(Status::MissingParameter, 1));
+        for (map, place) in [(&[0xA1, 0x18, 0x01, 0x00][..], 2), (&[0xA2, 0, 0, 0, 0], 4)] {
             let message = [&[MAKE_CREDENTIAL], map].concat();
-            assert_eq!(check(&message), Err(Status::InvalidCbor));
+            assert_eq!(check(&message), fault(Status::InvalidCbor, place));
         }
     }
 
     #[test]
     fn sizes_and_commands() {
-        assert_eq!(check(&[]), Err(Status::InvalidLength));
-        assert_eq!(check(&[0x04; LONGEST + 1]), Err(Status::InvalidLength));
-        assert_eq!(check(&[0x00; LONGEST + 1]), Err(Status::InvalidLength));
-        for command in [0x00, 0x03, 0x05, 0xFF] {
-            assert_eq!(check(&[command]), Err(Status::InvalidCommand));
+        assert_eq!(check(&[]), fault(Status::InvalidLength, 0));
+        for command in [0x00, 0x01, 0x04] {
+            let too_long = [command; LONGEST + 1];
+            assert_eq!(check(&too_long), fault(Status::InvalidLength, 0));
         }
-        for message in [&[0x01][..], &[0x02, 0x80], &[0x02, 0xA0, 0x00]] {
-            assert_eq!(check(message), Err(Status::InvalidCbor));
+        for command in [0x00, 0x03, 0x05, 0xFF] {
+            assert_eq!(check(&[command]), fault(Status::InvalidCommand, 0));
+        }
+        let longest = [0x04; LONGEST];
+        assert_eq!(check(&longest), fault(Status::InvalidLength, 1));
+    }
+
+    #[test]
+    fn one_map_and_nothing_after() {
+        for (message, place) in [
+            (&[0x01][..], 1),
+            (&[0x02, 0x80], 1),
+            (&[0x02, 0x82, 0x00, 0xFF], 1),
+            (&[0x02, 0xFF, 0x00], 1),
+            (&[0x02, 0xA0, 0x00, 0x00], 2),
+            (&[0x02, 0xA1, 0x00, 0x00, 0xFF], 4),
+        ] {
+            let found = check(message);
+            assert_eq!(found, fault(Status::InvalidCbor, place), "{message:02x?}");
         }
     }
 
@@ -330,7 +383,7 @@ mod tests {
         ] {
             assert_eq!(
                 check(&with_alg(alg)),
-                Err(Status::UnsupportedAlgorithm),
+                fault(Status::UnsupportedAlgorithm, ALGORITHMS),
                 "{alg:02x?}"
             );
         }
@@ -338,23 +391,25 @@ mod tests {
 
     #[test]
     fn the_first_fault_of_key_4_decides() {
-        for (algorithms, fault) in [
-            (&b"\xA0"[..], Status::UnexpectedKind),
-            (b"\x80", Status::UnsupportedAlgorithm),
-            (b"\x81\x00", Status::UnexpectedKind),
-            (b"\x81\xA0", Status::MissingParameter),
-            (b"\x81\xA1\x64type\x00", Status::MissingParameter),
-            (b"\x81\xA1\x63alg\x60", Status::UnexpectedKind),
-            (b"\x81\xA1\x63alg\x26", Status::MissingParameter),
-            (b"\x81\xA2\x63alg\x26\x64type\x00", Status::UnexpectedKind),
-            (b"\x82\xA0\x00", Status::MissingParameter),
-            (b"\x82\x00\xA0", Status::UnexpectedKind),
-            (
-                b"\x81\xA2\x63alg\x26\x64type\x60",
-                Status::UnsupportedAlgorithm,
-            ),
+        use Status::{MissingParameter, UnexpectedKind, UnsupportedAlgorithm};
+        for (algorithms, status, place) in [
+            (&b"\xA0"[..], UnexpectedKind, 0),
+            (b"\x80", UnsupportedAlgorithm, 0),
+            (b"\x81\x00", UnexpectedKind, 1),
+            (b"\x81\xA0", MissingParameter, 1),
+            (b"\x81\xA1\x64type\x00", MissingParameter, 1),
+            (b"\x81\xA1\x63alg\x60", UnexpectedKind, 6),
+            (b"\x81\xA1\x63alg\x26", MissingParameter, 1),
+            (b"\x81\xA2\x63alg\x26\x64type\x00", UnexpectedKind, 12),
+            (b"\x81\xA2\x63alg\x60\x64type\x00", UnexpectedKind, 6),
+            (b"\x82\xA0\x00", MissingParameter, 1),
+            (b"\x82\x00\xA0", UnexpectedKind, 1),
+            (b"\x82\xA2\x63alg\x26\x64type\x60\xA0", MissingParameter, 13),
+            (b"\x81\xA2\x63alg\x26\x64type\x60", UnsupportedAlgorithm, 0),
         ] {
-            assert_eq!(check(&make_credential(algorithms)), Err(fault));
+            let message = make_credential(algorithms);
+            let expected = fault(status, ALGORITHMS + place);
+            assert_eq!(check(&message), expected, "{algorithms:02x?}");
         }
     }
 
@@ -363,18 +418,19 @@ mod tests {
         let mut message = make_credential(b"\x00");
         message[1] = 0xA5;
         message.extend_from_slice(&[0x04, 0x80]);
-        assert_eq!(check(&message), Err(Status::InvalidCbor));
+        let later_key = ALGORITHMS + 1;
+        assert_eq!(check(&message), fault(Status::InvalidCbor, later_key));
     }
 
     #[test]
     fn a_fault_goes_before_an_absent_key() {
-        for (message, fault) in [
-            (&[0x01, 0xA1, 0x09, 0x20][..], Status::UnexpectedKind),
-            (&[0x01, 0xA1, 0x01, 0x40], Status::InvalidLength),
-            (&[0x02, 0xA1, 0x01, 0x60], Status::MissingParameter),
-            (&[0x02, 0xA1, 0x08, 0x20], Status::MissingParameter),
+        for (message, status, place) in [
+            (&[0x01, 0xA1, 0x09, 0x20][..], Status::UnexpectedKind, 3),
+            (&[0x01, 0xA1, 0x01, 0x40], Status::InvalidLength, 3),
+            (&[0x02, 0xA1, 0x01, 0x60], Status::MissingParameter, 1),
+            (&[0x02, 0xA1, 0x08, 0x20], Status::MissingParameter, 1),
         ] {
-            assert_eq!(check(message), Err(fault));
+            assert_eq!(check(message), fault(status, place), "{message:02x?}");
         }
     }
 }

@@ -368,8 +368,9 @@ impl Key {
             return Answer::Silent;
         }
         match command::check(&buffer[..usize::from(message.length)]) {
-            Err(status) => {
-                self.transaction = answering_status(message, status, buffer);
+            Err(fault) => {
+                // A packet carries the status alone.
+                self.transaction = answering_status(message, fault.status, buffer);
                 Answer::Silent
             }
             Ok(_) => {

@@ -7,11 +7,11 @@
 //! be compared. It is also the ordinary Rust version against which speed is measured.
 //!
 //! `cargo test --release` in this folder runs the unit tests, the scripts of `../vectors` and
-//! `../examples`, and the program `bench` against the model: table by table, and on random scripts
-//! of 250,000 events. It wants the program that `rt check bench` makes at the top of the repository;
-//! `BENCH` and `BENCH_RUNNER` name another or say how to run it (see [`trial::program`]). The random
-//! scripts have a fixed seed, which `SEED` replaces. A difference is reported with the shortest
-//! script that shows it.
+//! `../examples`, and the program `bench` against the model: table by table, with faults at places
+//! that are known beforehand, and on random scripts of 250,000 events. It wants the program that
+//! `rt check bench` makes at the top of the repository; `BENCH` and `BENCH_RUNNER` name another or
+//! say how to run it (see [`trial::program`]). What is random has a fixed seed, which `SEED`
+//! replaces. A difference is reported with the shortest script that shows it.
 //!
 //! `cargo run --release --bin soak -- 600s` (or a number of events) compares for longer, from a seed
 //! of its own unless `SEED` gives one.

@@ -4,7 +4,7 @@
 mod common;
 
 use common::{agree, hex};
-use model::trial::item::Tree;
+use model::trial::tree::{Entries, Tree};
 
 const MAKE_CREDENTIAL: u8 = 0x01;
 const GET_ASSERTION: u8 = 0x02;
@@ -25,8 +25,6 @@ const EDGES: [u64; 13] = [
     i64::MAX as u64,
     u64::MAX,
 ];
-
-type Entries = Vec<(Tree, Tree)>;
 
 fn check(command: u8, entries: Entries) -> String {
     let message = [vec![command], Tree::Map(entries).encoded()].concat();

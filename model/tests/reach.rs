@@ -1,5 +1,5 @@
 //! The random scripts reach every row of document 01's tables, in every phase in which it can come
-//! up, and every refusal and status.
+//! up, and every refusal and status, the statuses at every sort of place they can have.
 
 use model::trial::tally::Tally;
 use model::trial::writer::{events_of, write_script};
@@ -42,7 +42,7 @@ const WHILE_HELD: [&str; 4] = [
 ];
 
 /// The rest of the tables, and the checking and reading of commands and items.
-const ONCE: [&str; 62] = [
+const ONCE: [&str; 77] = [
     "idle given INIT: error 03",
     "idle given INIT: INIT reply",
     "idle given another command: error 01",
@@ -93,18 +93,33 @@ const ONCE: [&str; 62] = [
     "out of order time: refused 7",
     "out of order fetch: refused 7",
     "out of order deliver: refused 7",
-    "check: status 01",
-    "check: status 03",
-    "check: status 11",
-    "check: status 12",
-    "check: status 14",
-    "check: status 26",
+    "check: status 01 at 0",
+    "check: status 03 at 0",
+    "check: status 03 at 1",
+    "check: status 03 below 256",
+    "check: status 03 beyond 255",
+    "check: status 11 below 256",
+    "check: status 11 beyond 255",
+    "check: status 11 beyond 4095",
+    "check: status 12 at 1",
+    "check: status 12 below 256",
+    "check: status 12 beyond 255",
+    "check: status 12 beyond 4095",
+    "check: status 12 at the length",
+    "check: status 14 at 1",
+    "check: status 14 below 256",
+    "check: status 14 beyond 255",
+    "check: status 26 below 256",
+    "check: status 26 beyond 255",
     "check: good",
     "check: good hash",
     "item: item",
-    "item: status 12",
+    "item: status 12 at 0",
+    "item: status 12 below 256",
+    "item: status 12 beyond 255",
+    "item: status 12 at the length",
     "text: item",
-    "text: status 12",
+    "text: status 12 at 0",
 ];
 
 #[test]

@@ -112,7 +112,7 @@ fn judging_an_algorithm_by_its_low_byte() {
         let alg_249 = b"\x63alg\x18\xF9";
         if let Some(Line::Check(message)) = line::read(line.as_bytes()) {
             let has_it = message.windows(alg_249.len()).any(|part| part == alg_249);
-            if has_it && out[start..] == *b"status 26\n" {
+            if has_it && out[start..].starts_with(b"status 26 at ") {
                 out.truncate(start);
                 out.extend_from_slice(b"good\n");
             }

@@ -5,8 +5,8 @@
 mod common;
 
 use common::{agree, hex};
-use model::trial::item::{Tree, BYTES, NEGATIVE, TEXT};
 use model::trial::text::ROW_ENDS;
+use model::trial::tree::{Tree, BYTES, NEGATIVE, TEXT};
 
 const MAKE_CREDENTIAL: u8 = 0x01;
 const GET_ASSERTION: u8 = 0x02;

@@ -1,6 +1,6 @@
 //! Scripts with their answers: those of `vectors`, which come from an independent reading of the
-//! documents, and those of `examples`. `vectors/07` has the rules as requests 2026-03 (the order of
-//! keys) and 2026-07 (text is UTF-8) amend them.
+//! documents, and those of `examples`. `vectors/09` has the rules as requests 2026-03 (the order of
+//! keys), 2026-07 (text is UTF-8) and 2026-09 (where a message is wrong) amend them.
 
 use std::fs;
 use std::path::{Path, PathBuf};
@@ -31,7 +31,7 @@ fn vectors() -> Vec<(PathBuf, Vec<u8>, Vec<u8>)> {
     let read =
         |path: &Path| fs::read(path).unwrap_or_else(|error| panic!("{}: {error}", path.display()));
     let mut paths = scripts("vectors", "in");
-    paths.extend(scripts("vectors/07", "in"));
+    paths.extend(scripts("vectors/09", "in"));
     paths.extend(scripts("examples", "txt"));
     paths
         .into_iter()

@@ -32,7 +32,7 @@ pub(crate) fn check(b: Bench, text: &[u8], out: &mut [u8]) -> Taken
     Taken::Yes(b, checked(command::check(&bytes[0..n]), out))
 }
 
-// `good`, `good hash AT` or `status HH`
+// `good`, `good hash AT` or `status HH at N`
 fn checked(found: Checked, out: &mut [u8]) -> usize
     requires { ⌜ answerSize ≤ length (now out) ⌝ }
     ensures { λ r. ⌜ r ≤ answerSize ⌝ }
@@ -40,8 +40,18 @@ fn checked(found: Checked, out: &mut [u8]) -> usize
     match found {
         Checked::Info => output::text(0, b"good\n", out),
         Checked::Good(at) => output::numbered(b"good hash", at as u64, out),
-        Checked::Refused(code) => output::in_hex(0, b"status ", &[code], out),
+        Checked::Refused(code, place) => fault(code, place, out),
     }
+}
+
+// `status HH at N`
+fn fault(code: u8, place: usize, out: &mut [u8]) -> usize
+    requires { ⌜ answerSize ≤ length (now out) ⌝ }
+    ensures { λ r. ⌜ r ≤ answerSize ⌝ }
+{
+    let status = output::hex(output::text(0, b"status ", out), &[code], out);
+    let end = output::number(output::text(status, b" at", out), place as u64, out);
+    output::text(end, b"\n", out)
 }
 
 // `item L HEX`
@@ -63,13 +73,13 @@ pub(crate) fn item(b: Bench, text: &[u8], out: &mut [u8]) -> Taken
     Taken::Yes(b, read(cbor::read_item(&bytes[0..n], levels), out))
 }
 
-// `item N` or `status 12`
+// `item N` or `status 12 at N`
 fn read(found: Item, out: &mut [u8]) -> usize
     requires { ⌜ answerSize ≤ length (now out) ⌝ }
     ensures { λ r. ⌜ r ≤ answerSize ⌝ }
 {
     match found {
         Item::Len(n) => output::numbered(b"item", n as u64, out),
-        Item::Fault(_) => output::in_hex(0, b"status ", &[INVALID_CBOR], out),
+        Item::Fault(place) => fault(INVALID_CBOR, place, out),
     }
 }

@@ -19,7 +19,7 @@ fn digit(n: u8) -> u8
 }
 
 // Bytes in hex, in lower case.
-fn hex(at: usize, bytes: &[u8], out: &mut [u8]) -> usize
+pub(crate) fn hex(at: usize, bytes: &[u8], out: &mut [u8]) -> usize
     requires { ⌜ at + 2 * length (now bytes) ≤ length (now out) ⌝ }
     ensures { λ r. ⌜ r ≡ at + 2 * length (now (bytes .entry)) ⌝ }
 {

@@ -1,37 +1,57 @@
--- A head and a key rest on their own bytes alone: other bytes that begin with the same ones hold the same head and the same key. So a key that
--- was read in a message is a key when it is cut out of it.
-use Prim.Native.Nat.{ℕ, _+_, _-_, _≤_, _<_}
+-- A head, a key and an item rest on their own bytes alone: other bytes that begin with the same ones hold the same head, key or item. So a key
+-- that was read in a message is a key when it is cut out of it.
+use Prim.Native.Nat.{ℕ, zero, suc, _+_, _-_, _≤_, _<_}
 use mathlib.Core.Path.{_≡_, refl, sym, ap, _∙_}
-use mathlib.Core.List.{List}
+use mathlib.Core.List.{List, []}
 use mathlib.Core.Bool.{Bool, true, false}
 use native.Mathlib.Omega.{arith}
-use lib.ListN.{length, getD, drop, length-drop}
+use lib.ListN.{length, getD, take, drop, length-drop}
 use lib.Seq.{length-take-le, getD-take, getD-drop, ext-getD}
 use lib.Dec.{leb, eqb}
 use borrow.Author.Tests.{le-leb}
 use Rattle.cbor.specs.Choice.{if_then_else_}
 use Rattle.cbor.specs.Bytes.{u8At, u16At, u32At, u64At}
 use Rattle.cbor.specs.Head.{firstOf, shortestOf, longHead, headInForm, headAfter, headOf}
-use Rattle.cbor.specs.Item.{part, readAt, andThen, stringOf, textOf, plainOf, isKey, keyOfKind, byHead, keyOf, Key}
+use Rattle.cbor.specs.Order.{keyBefore}
+use Rattle.cbor.specs.Item.{part, countedFrom, readAt, andThen, stringOf, textOf, plainOf, isKey, keyOfKind, byHead, keyOf, Key, nextKeyOf, elementsOf, entriesOf, nestedOf, itemOf}
 use Rattle.cbor.specs.declared.head.Kind.{Kind}
 use Rattle.cbor.specs.declared.head.Kind.the-variants.{Unsigned, Negative, Bytes, Text, Array, Map, Simple}
 use Rattle.cbor.specs.declared.head.First.{First}
 use Rattle.cbor.specs.declared.head.First.the-variants.{Argument, Form, Refused}
 use Rattle.cbor.specs.declared.head.Head.{Head}
 use Rattle.cbor.specs.declared.head.Head.the-variants.{Of, Bad}
+use Rattle.cbor.specs.declared.Item.{Item}
 use Rattle.cbor.specs.declared.Item.the-variants.{Len, Fault}
 use Rattle.cbor.proofs.Heads.{shape, head-some}
-use Rattle.cbor.proofs.Items.{key-within, read-fits}
-use Rattle.cbor.proofs.Inside.{fault-len, len-len, string-size, text-inside, read-part}
+use Rattle.cbor.proofs.Items.{Bounded, key-within, item-within, read-fits}
+use Rattle.cbor.proofs.Inside.{fault-len, len-len, string-size, text-inside, read-part, next-item, items-fit, next-key, next-entry, entries-fit}
 
 bad-of : {A : Type 0} {k : Kind} {v l : ℕ} → Bad ≡ Of k v l → A
 bad-of e = let z : _≡_ {A = ℕ} 0 1 = cc in absurd (omega arith)
 
 -- t begins with the first n bytes of s.
-record Begins (s t : List ℕ) (n : ℕ) : Type 0 where
-  whole : n ≤ length s
-  fits : n ≤ length t
-  byte : (i : ℕ) → i < n → getD t i 0 ≡ getD s i 0
+pub record Begins (s t : List ℕ) (n : ℕ) : Type 0 where
+  pub whole : n ≤ length s
+  pub fits : n ≤ length t
+  pub byte : (i : ℕ) → i < n → getD t i 0 ≡ getD s i 0
+
+pub fewer : {s t : List ℕ} {n : ℕ} (m : ℕ) → m ≤ n → Begins s t n → Begins s t m
+fewer m h w = record { whole = omega (arith, w .whole); fits = omega (arith, w .fits); byte = λ i g. w .byte i (omega arith) }
+
+pub further : (s t : List ℕ) (n at : ℕ) → at ≤ n → Begins s t n → Begins (drop at s) (drop at t) (n - at)
+further s t n at h w =
+    record {
+      whole = omega (arith, length-drop at s, w .whole);
+      fits = omega (arith, length-drop at t, w .fits);
+      byte = λ i g. getD-drop at t i 0 ∙ w .byte (at + i) (omega arith) ∙ sym (getD-drop at s i 0);
+    }
+
+pub begins-take : (s : List ℕ) (n : ℕ) → n ≤ length s → Begins s (take n s) n
+begins-take s n h = record { whole = h; fits = omega (arith, length-take-le n s h); byte = λ i g. getD-take n s i 0 g }
+
+-- A reader that rests on the bytes of what it reads.
+abbrev pub Same : (List ℕ → Item) → Type 0
+Same f = (s t : List ℕ) (n : ℕ) → Begins s t n → f s ≡ Len n → f t ≡ Len n
 
 module _ (s t : List ℕ) {j : Kind} {v l : ℕ} (w : Begins s t l) where
   -- A head of m bytes whose argument is x in s, and y in t.
@@ -56,7 +76,7 @@ module _ (s t : List ℕ) {j : Kind} {v l : ℕ} (w : Begins s t l) where
       go false false true = long-same k 5 (u32At s 1) (u32At t 1) 0x1_0000 (λ i. rw (w .byte 1 (omega arith), w .byte 2 (omega arith), w .byte 3 (omega arith), w .byte 4 (omega arith)))
       go false false false = long-same k 9 (u64At s 1) (u64At t 1) 0x1_0000_0000 (λ i. rw (w .byte 1 (omega arith), w .byte 2 (omega arith), w .byte 3 (omega arith), w .byte 4 (omega arith), w .byte 5 (omega arith), w .byte 6 (omega arith), w .byte 7 (omega arith), w .byte 8 (omega arith)))
 
-  head-same : headOf s ≡ Of j v l → headOf t ≡ Of j v l
+  pub head-same : headOf s ≡ Of j v l → headOf t ≡ Of j v l
   unfolding headAfter
   head-same e =
       let h = shape s e in
@@ -74,7 +94,7 @@ unfolding stringOf
 string-same v l n s t f e = let i = string-size v l n s e in (omega arith, rw (le-leb v (length t - l) (omega arith)) (ap Len (sym i)))
 
 -- The bytes of a part that ends where these do.
-part-same : (l n : ℕ) (s t : List ℕ) → l ≤ n → Begins s t n → part t l n ≡ part s l n
+pub part-same : (l n : ℕ) (s t : List ℕ) → l ≤ n → Begins s t n → part t l n ≡ part s l n
 part-same l n s t h w =
     let a = length-take-le (n - l) (drop l s) (omega (arith, length-drop l s, w .whole)) in
     let b = length-take-le (n - l) (drop l t) (omega (arith, length-drop l t, w .fits)) in
@@ -97,20 +117,76 @@ plain-same Array v l n s t w e = fault-len e
 plain-same Map v l n s t w e = fault-len e
 plain-same Simple v l n s t w e = (omega (arith, len-len e), e)
 
-key-same : (s t : List ℕ) (n : ℕ) → Begins s t n → keyOf s ≡ Len n → keyOf t ≡ Len n
-unfolding keyOf byHead keyOfKind
-key-same s t n w e = go (headOf s) refl e
+-- What goes by the head is the same if it is for every kind.
+by-head-same : (g : Kind → ℕ → ℕ → List ℕ → Item) (s t : List ℕ) (n : ℕ) → Begins s t n → ((k : Kind) (v l : ℕ) → l ≤ length s → g k v l s ≡ Len n → (l ≤ n) × (g k v l t ≡ Len n)) → byHead g (headOf s) s ≡ Len n → byHead g (headOf t) t ≡ Len n
+unfolding byHead
+by-head-same g s t n w f e = go (headOf s) refl e
   where
-    by-kind : (k : Kind) (v l : ℕ) → headOf s ≡ Of k v l → (x : Bool) → isKey k ≡ x → (if x then plainOf k v l s else Fault 0) ≡ Len n → keyOf t ≡ Len n
-    by-kind k v l h true i g =
-        let p = plain-same k v l n s t w g in
-        let b : Begins s t l = record { whole = omega (arith, p .0, w .whole); fits = omega (arith, p .0, w .fits); byte = λ m q. w .byte m (omega (arith, p .0)) } in
-        rw (head-same s t b h, i) (p .1)
-    by-kind k v l h false i g = fault-len g
+    go : (x : Head) → headOf s ≡ x → byHead g x s ≡ Len n → byHead g (headOf t) t ≡ Len n
+    go (Of k v l) h i =
+        let r = f k v l (shape s h .fits) i in
+        rw (head-same s t (fewer l (r .0) w) h) (r .1)
+    go Bad h i = fault-len i
 
-    go : (x : Head) → headOf s ≡ x → byHead keyOfKind x s ≡ Len n → keyOf t ≡ Len n
-    go (Of k v l) h g = by-kind k v l h (isKey k) refl g
-    go Bad h g = fault-len g
+pub key-same : Same keyOf
+unfolding keyOf keyOfKind
+key-same s t n w e = by-head-same keyOfKind s t n w (λ k v l h. go k v l (isKey k)) e
+  where
+    go : (k : Kind) (v l : ℕ) (x : Bool) → (if x then plainOf k v l s else Fault 0) ≡ Len n → (l ≤ n) × ((if x then plainOf k v l t else Fault 0) ≡ Len n)
+    go k v l true = plain-same k v l n s t w
+    go k v l false = fault-len
+
+-- What was read from a place on, item by item and entry by entry.
+pub read-same : (f : List ℕ → Item) → Same f → (s t : List ℕ) (at end : ℕ) → Begins s t end → readAt f s at ≡ Len end → readAt f t at ≡ Len end
+unfolding readAt countedFrom
+read-same f m s t at end w e =
+    let r = read-part f s at end e in
+    let i : at + (end - at) ≡ end = omega (arith, r .0) in
+    rw (m (drop at s) (drop at t) (end - at) (further s t end at (r .0) w) (r .1)) (ap Len i)
+
+pub next-same : (s t prev : List ℕ) (at mid : ℕ) → Begins s t mid → nextKeyOf s prev at ≡ Len mid → nextKeyOf t prev at ≡ Len mid
+unfolding nextKeyOf andThen
+next-same s t prev at mid w e =
+    let k = next-key s prev at mid e in
+    let p = part-same at mid s t (read-part keyOf s at mid (k .0) .0) w in
+    rw (read-same keyOf key-same s t at mid w (k .0), p, k .1)
+
+module _ (f : List ℕ → Item) (m : Same f) (b : Bounded f) (s t : List ℕ) (end : ℕ) (w : Begins s t end) where
+  elements-same : (n at : ℕ) → at ≤ length s → elementsOf f n s at ≡ Len end → elementsOf f n t at ≡ Len end
+  unfolding elementsOf andThen
+  elements-same zero at h e = e
+  elements-same (suc n) at h e =
+      let x = next-item f s end n at e in
+      let i = read-fits f b s at (x .next) (x .item) .1 in
+      let l = items-fit f s end b n (x .next) i (x .run) .0 in
+      rw (read-same f m s t at (x .next) (fewer (x .next) l w) (x .item)) (elements-same n (x .next) i (x .run))
+
+  entries-same : (n : ℕ) (prev : List ℕ) (at : ℕ) → at ≤ length s → entriesOf f n s prev at ≡ Len end → entriesOf f n t prev at ≡ Len end
+  unfolding entriesOf nextKeyOf andThen
+  entries-same zero prev at h e = e
+  entries-same (suc n) prev at h e =
+      let x = next-entry f s end n prev at e in
+      let i = read-fits f b s (x .mid) (x .next) (x .value) in
+      let l = entries-fit f s end b n (part s at (x .mid)) (x .next) (i .1) (x .run) .0 in
+      let k : Begins s t (x .mid) = fewer (x .mid) (omega (arith, i .0)) w in
+      let p = part-same at (x .mid) s t (read-part keyOf s at (x .mid) (x .key) .0) k in
+      let o = ap (keyBefore prev) p ∙ x .order in
+      let r = ap (λ (j : List ℕ). entriesOf f n t j (x .next)) p ∙ entries-same n (part s at (x .mid)) (x .next) (i .1) (x .run) in
+      rw (read-same keyOf key-same s t at (x .mid) k (x .key), o, read-same f m s t (x .mid) (x .next) (fewer (x .next) l w) (x .value)) r
+
+  nested-same : (k : Kind) (v l : ℕ) → l ≤ length s → nestedOf f k v l s ≡ Len end → (l ≤ end) × (nestedOf f k v l t ≡ Len end)
+  nested-same Unsigned v l h e = plain-same Unsigned v l end s t w e
+  nested-same Negative v l h e = plain-same Negative v l end s t w e
+  nested-same Bytes v l h e = plain-same Bytes v l end s t w e
+  nested-same Text v l h e = plain-same Text v l end s t w e
+  nested-same Array v l h e = (items-fit f s end b v l h e .0, elements-same v l h e)
+  nested-same Map v l h e = (entries-fit f s end b v [] l h e .0, entries-same v [] l h e)
+  nested-same Simple v l h e = plain-same Simple v l end s t w e
+
+pub item-same : (levels : ℕ) → Same (itemOf levels)
+unfolding itemOf
+item-same zero s t n w e = by-head-same plainOf s t n w (λ k v l h. plain-same k v l n s t w) e
+item-same (suc levels) s t n w e = by-head-same (nestedOf (itemOf levels)) s t n w (nested-same (itemOf levels) (item-same levels) (item-within levels) s t n w) e
 
 -- The part of a message that was read as a key is one.
 pub key-part : (s : List ℕ) (at end : ℕ) → readAt keyOf s at ≡ Len end → Key (part s at end)

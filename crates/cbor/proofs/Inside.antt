@@ -12,7 +12,7 @@ use Rattle.cbor.specs.Choice.{if_then_else_}
 use Rattle.cbor.specs.Head.{headOf}
 use Rattle.cbor.specs.Text.{utf8}
 use Rattle.cbor.specs.Order.{keyBefore}
-use Rattle.cbor.specs.Item.{part, countedFrom, readAt, andThen, stringOf, textOf, byHead, keyOf, nextKeyOf, elementsOf, entriesOf, itemOf}
+use Rattle.cbor.specs.Item.{part, countedFrom, readAt, andThen, passing, stringOf, textOf, byHead, keyOf, nextKeyOf, elementsOf, entriesOf, itemOf}
 use Rattle.cbor.specs.declared.head.Kind.the-variants.{Array, Map}
 use Rattle.cbor.specs.declared.head.Head.the-variants.{Of}
 use Rattle.cbor.specs.declared.Item.{Item}
@@ -34,18 +34,20 @@ string-size v l n s = go (leb v (length s - l))
     go true e = sym (len-len e)
     go false e = fault-len e
 
+-- What was read and passed a test was read to the same end, and the test holds there.
+pub passed : (x : Item) (test : ℕ → Bool) (place : ℕ → ℕ) (n : ℕ) → passing x test place ≡ Len n → (x ≡ Len n) × (test n ≡ true)
+unfolding andThen
+passed (Len end) test place n h = go (test end) refl h
+  where
+    go : (t : Bool) → test end ≡ t → (if t then Len end else Fault (place end)) ≡ Len n → (Len end ≡ Len n) × (test n ≡ true)
+    go true e h = (h, rw (len-len h) at e)
+    go false e h = fault-len h
+passed (Fault q) test place n h = fault-len h
+
 -- A text that was read is a string, and UTF-8.
 pub text-inside : (v l n : ℕ) (s : List ℕ) → textOf v l s ≡ Len n → (stringOf v l s ≡ Len n) × (utf8 (part s l n) ≡ true)
-unfolding textOf andThen
-text-inside v l n s = go (stringOf v l s)
-  where
-    checked : (end : ℕ) (t : Bool) → utf8 (part s l end) ≡ t → (if t then Len end else Fault 0) ≡ Len n → (Len end ≡ Len n) × (utf8 (part s l n) ≡ true)
-    checked end true u h = (h, rw (len-len h) at u)
-    checked end false u h = fault-len h
-
-    go : (x : Item) → andThen x (λ end. if utf8 (part s l end) then Len end else Fault 0) ≡ Len n → (x ≡ Len n) × (utf8 (part s l n) ≡ true)
-    go (Len end) h = checked end (utf8 (part s l end)) refl h
-    go (Fault p) h = fault-len h
+unfolding textOf
+text-inside v l n s = passed (stringOf v l s) (λ end. utf8 (part s l end)) _ n
 
 -- What was read at a place, as the part that begins there has it.
 pub read-part : (f : List ℕ → Item) (s : List ℕ) (at end : ℕ) → readAt f s at ≡ Len end → (at ≤ end) × (f (drop at s) ≡ Len (end - at))
@@ -90,16 +92,8 @@ module _ (f : List ℕ → Item) (s : List ℕ) (end : ℕ) where
 
 -- The next key of a map that was read: it is a key, and comes after the one before.
 pub next-key : (s prev : List ℕ) (at mid : ℕ) → nextKeyOf s prev at ≡ Len mid → (readAt keyOf s at ≡ Len mid) × (keyBefore prev (part s at mid) ≡ true)
-unfolding nextKeyOf andThen
-next-key s prev at mid e = go (readAt keyOf s at) e
-  where
-    in-order : (end : ℕ) (t : Bool) → keyBefore prev (part s at end) ≡ t → (if t then Len end else Fault at) ≡ Len mid → (Len end ≡ Len mid) × (keyBefore prev (part s at mid) ≡ true)
-    in-order end true o h = (h, rw (len-len h) at o)
-    in-order end false o h = fault-len h
-
-    go : (x : Item) → andThen x (λ end. if keyBefore prev (part s at end) then Len end else Fault at) ≡ Len mid → (x ≡ Len mid) × (keyBefore prev (part s at mid) ≡ true)
-    go (Len end) h = in-order end (keyBefore prev (part s at end)) refl h
-    go (Fault p) h = fault-len h
+unfolding nextKeyOf
+next-key s prev at mid = passed (readAt keyOf s at) (λ end. keyBefore prev (part s at end)) _ mid
 
 -- The entries of a map, one by one.
 pub record NextEntry (f : List ℕ → Item) (s : List ℕ) (end n : ℕ) (prev : List ℕ) (at : ℕ) : Type 0 where

@@ -14,7 +14,7 @@ use Rattle.cbor.specs.Choice.{if_then_else_}
 use Rattle.cbor.specs.Head.{headOf}
 use Rattle.cbor.specs.Text.{utf8}
 use Rattle.cbor.specs.Order.{keyBefore}
-use Rattle.cbor.specs.Item.{part, countedFrom, readAt, andThen, stringOf, textOf, plainOf, isKey, keyOfKind, byHead, keyOf, nextKeyOf, elementsOf, entriesOf, nestedOf, itemOf}
+use Rattle.cbor.specs.Item.{part, countedFrom, readAt, andThen, passing, stringOf, textOf, plainOf, isKey, keyOfKind, byHead, keyOf, nextKeyOf, elementsOf, entriesOf, nestedOf, itemOf}
 use Rattle.cbor.specs.declared.head.Kind.{Kind}
 use Rattle.cbor.specs.declared.head.Kind.the-variants.{Unsigned, Negative, Bytes, Text, Array, Map, Simple}
 use Rattle.cbor.specs.declared.head.Head.{Head}
@@ -36,7 +36,7 @@ Bounded f = (s : List ℕ) → Within 1 (length s) (f s)
 pub rest : (s : List ℕ) (at : ℕ) → take (length s - at) (drop at s) ≡ drop at s
 rest s at = take-all (length s - at) (drop at s) (omega (arith, length-drop at s))
 
-earlier : (b a n : ℕ) (x : Item) → b ≤ a → Within a n x → Within b n x
+pub earlier : (b a n : ℕ) (x : Item) → b ≤ a → Within a n x → Within b n x
 earlier b a n (Len k) h i = (omega arith, i .1)
 earlier b a n (Fault p) h i = i
 
@@ -50,6 +50,16 @@ then-within : (a b n : ℕ) (x : Item) (g : ℕ → Item) → a ≤ b → Within
 unfolding andThen
 then-within a b n (Len k) g h i w = earlier a k n (g k) (omega arith) (w k (i .0) (i .1))
 then-within a b n (Fault p) g h i w = i
+
+-- A test moves no end.
+pub passing-within : (a n : ℕ) (x : Item) (test : ℕ → Bool) (place : ℕ → ℕ) → Within a n x → ((k : ℕ) → k ≤ n → place k ≤ n) → Within a n (passing x test place)
+unfolding andThen
+passing-within a n (Len k) test place i h = go (test k)
+  where
+    go : (t : Bool) → Within a n (if t then Len k else Fault (place k))
+    go true = i
+    go false = h k (i .1)
+passing-within a n (Fault q) test place i h = i
 
 pub read-within : (f : List ℕ → Item) → Bounded f → (s : List ℕ) (at : ℕ) → at ≤ length s → Within (at + 1) (length s) (readAt f s at)
 unfolding readAt
@@ -74,11 +84,7 @@ string-within v l s h = go (leb v (length s - l)) refl
 
 text-within : (v l : ℕ) (s : List ℕ) → l ≤ length s → Within l (length s) (textOf v l s)
 unfolding textOf
-text-within v l s h = then-within l l (length s) (stringOf v l s) _ (omega arith) (string-within v l s h) (λ end a i. go (utf8 (part s l end)) end i)
-  where
-    go : (t : Bool) (end : ℕ) → end ≤ length s → Within end (length s) (if t then Len end else Fault 0)
-    go true end i = (le-refl end, i)
-    go false end i = omega arith
+text-within v l s h = passing-within l (length s) (stringOf v l s) (λ end. utf8 (part s l end)) _ (string-within v l s h) (λ k i. omega arith)
 
 plain-within : (k : Kind) (v l : ℕ) (s : List ℕ) → 1 ≤ l → l ≤ length s → Within 1 (length s) (plainOf k v l s)
 plain-within Unsigned v l s g h = (g, h)
@@ -108,11 +114,7 @@ key-within s = head-within keyOfKind s (λ k v l g h. go (isKey k) k v l g h)
 
 pub next-within : (s prev : List ℕ) (at : ℕ) → at ≤ length s → Within (at + 1) (length s) (nextKeyOf s prev at)
 unfolding nextKeyOf
-next-within s prev at h = then-within (at + 1) (at + 1) (length s) (readAt keyOf s at) _ (omega arith) (read-within keyOf key-within s at h) (λ end a i. go (keyBefore prev (part s at end)) end i)
-  where
-    go : (t : Bool) (end : ℕ) → end ≤ length s → Within end (length s) (if t then Len end else Fault at)
-    go true end i = (le-refl end, i)
-    go false end i = h
+next-within s prev at h = passing-within (at + 1) (length s) (readAt keyOf s at) (λ end. keyBefore prev (part s at end)) _ (read-within keyOf key-within s at h) (λ k i. h)
 
 module _ (f : List ℕ → Item) (t : Bounded f) where
   pub elements-within : (n : ℕ) (s : List ℕ) (at : ℕ) → at ≤ length s → Within at (length s) (elementsOf f n s at)

@@ -2,10 +2,12 @@
 use Prim.Native.Nat.{ℕ, _+_, _-_, _≤_, _<_}
 use mathlib.Core.Path.{_≡_, sym, ap}
 use mathlib.Core.List.{List}
+use mathlib.Core.Bool.{Bool, true, false}
 use native.Mathlib.Omega.{arith}
 use lib.ListN.{length, take, drop}
 use borrow.Author.Tests.{lt-ltb, le-ltb}
-use Rattle.cbor.specs.Item.{countedFrom, readAt, andThen}
+use Rattle.cbor.specs.Choice.{if_then_else_}
+use Rattle.cbor.specs.Item.{countedFrom, readAt, andThen, passing}
 use Rattle.cbor.specs.Answer.{faultBase, asNumber, fromNumber}
 use Rattle.cbor.specs.declared.Item.{Item}
 use Rattle.cbor.specs.declared.Item.the-variants.{Len, Fault}
@@ -33,6 +35,14 @@ pub decides : (a n : ℕ) (x : Item) (g : ℕ → Item) {r : ℕ} → Within a n
 unfolding andThen
 decides a n (Len k) g i l e h = absurd (omega arith)
 decides a n (Fault p) g i l e h = e
+
+-- A test of where it ends: the same number if it holds, else the fault's.
+module _ (x : Item) (test : ℕ → Bool) (place : ℕ → ℕ) {r : ℕ} (e : r ≡ asNumber x) (h : r < faultBase) where
+  pub holds : test r ≡ true → r ≡ asNumber (passing x test place)
+  holds t = rw (goes-on x (λ end. if test end then Len end else Fault (place end)) e h, t)
+
+  pub fails : test r ≡ false → faultBase + place r ≡ asNumber (passing x test place)
+  fails t = rw (goes-on x (λ end. if test end then Len end else Fault (place end)) e h, t)
 
 -- The bounds of what was read, as bounds of its number.
 pub ends : (a n : ℕ) (x : Item) {r : ℕ} → Within a n x → r ≡ asNumber x → r < faultBase → (a ≤ r) × (r ≤ n)

@@ -29,10 +29,10 @@ use Rattle.cbor.proofs.Heads.{shape, head-none, head-some}
 use Rattle.cbor.proofs.Items.{Bounded, string-within, read-within, key-within, next-within}
 use Rattle.cbor.proofs.Inside.{next-key}
 use Rattle.cbor.proofs.Alone.{key-part}
-use Rattle.cbor.proofs.Numbers.{is-length, goes-on, decides, ends}
+use Rattle.cbor.proofs.Numbers.{is-length, goes-on, decides, holds, fails, ends}
 
 -- The kinds that hold no other item: for these the levels do not count.
-abbrev Plain : Kind → Type 0
+abbrev pub Plain : Kind → Type 0
 Plain Unsigned = Unit {0}
 Plain Negative = Unit {0}
 Plain Bytes = Unit {0}
@@ -147,13 +147,13 @@ module _ (v l : ℕ) (s : List ℕ) {r : ℕ} (e : r ≡ asNumber (stringOf v l 
   pub text-fits : l ≤ length s → r < faultBase → (l ≤ r) × (r ≤ length s)
   text-fits h g = ends l (length s) (stringOf v l s) (string-within v l s h) e g
 
-  pub text-good : r < faultBase → utf8 (part s l r) ≡ true → textOf v l s ≡ Len r
+  pub text-good : r < faultBase → utf8 (part s l r) ≡ true → r ≡ asNumber (textOf v l s)
   unfolding textOf
-  text-good g u = goes-on (stringOf v l s) _ e g ∙ rw u
+  text-good = holds (stringOf v l s) (λ end. utf8 (part s l end)) (λ end. 0) e
 
-  pub text-bad : r < faultBase → utf8 (part s l r) ≡ false → textOf v l s ≡ Fault 0
+  pub text-bad : r < faultBase → utf8 (part s l r) ≡ false → faultBase ≡ asNumber (textOf v l s)
   unfolding textOf
-  text-bad g u = goes-on (stringOf v l s) _ e g ∙ rw u
+  text-bad = fails (stringOf v l s) (λ end. utf8 (part s l end)) (λ end. 0) e
 
 -- What was read as a key is one, and so is the next key.
 pub read-is-key : (s : List ℕ) (at : ℕ) {r : ℕ} → r ≡ asNumber (readAt keyOf s at) → r < faultBase → Key (part s at r)
@@ -168,13 +168,13 @@ module _ (s prev : List ℕ) (at : ℕ) {r : ℕ} (e : r ≡ asNumber (readAt ke
   unfolding nextKeyOf
   next-stop h b g = decides (at + 1) (length s) (readAt keyOf s at) _ (read-within keyOf key-within s at h) b e g
 
-  pub next-good : r < faultBase → keyBefore prev (part s at r) ≡ true → nextKeyOf s prev at ≡ Len r
+  pub next-good : r < faultBase → keyBefore prev (part s at r) ≡ true → r ≡ asNumber (nextKeyOf s prev at)
   unfolding nextKeyOf
-  next-good g o = goes-on (readAt keyOf s at) _ e g ∙ rw o
+  next-good = holds (readAt keyOf s at) (λ end. keyBefore prev (part s at end)) (λ end. at) e
 
-  pub next-late : r < faultBase → keyBefore prev (part s at r) ≡ false → nextKeyOf s prev at ≡ Fault at
+  pub next-late : r < faultBase → keyBefore prev (part s at r) ≡ false → faultBase + at ≡ asNumber (nextKeyOf s prev at)
   unfolding nextKeyOf
-  next-late g o = goes-on (readAt keyOf s at) _ e g ∙ rw o
+  next-late = fails (readAt keyOf s at) (λ end. keyBefore prev (part s at end)) (λ end. at) e
 
 pub value-within : (s prev : List ℕ) (at : ℕ) {m : ℕ} → m ≡ asNumber (nextKeyOf s prev at) → at ≤ length s → m < faultBase → (at < m) × (m ≤ length s)
 value-within s prev at e h g = let w = ends (at + 1) (length s) (nextKeyOf s prev at) (next-within s prev at h) e g in (omega arith, w .1)

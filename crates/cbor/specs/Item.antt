@@ -32,13 +32,17 @@ unfoldable pub andThen : Item → (ℕ → Item) → Item
 andThen (Len n) g = g n
 andThen (Fault p) g = Fault p
 
+-- What was read must also pass a test of where it ends; else it is a fault at the place that is given for that end.
+abbrev pub passing : Item → (ℕ → Bool) → (ℕ → ℕ) → Item
+passing x test place = andThen x (λ end. if test end then Len end else Fault (place end))
+
 -- A string of v bytes after its head.
 unfoldable pub stringOf : ℕ → ℕ → List ℕ → Item
 stringOf v l s = if leb v (length s - l) then Len (l + v) else Fault 0
 
 -- A text is a string that is UTF-8. The fault of one that is not is the item's.
 unfoldable pub textOf : ℕ → ℕ → List ℕ → Item
-textOf v l s = andThen (stringOf v l s) (λ end. if utf8 (part s l end) then Len end else Fault 0)
+textOf v l s = passing (stringOf v l s) (λ end. utf8 (part s l end)) (λ end. 0)
 
 -- An item that holds no other. An array or a map needs a level, even an empty one.
 abbrev pub plainOf : Kind → ℕ → ℕ → List ℕ → Item
@@ -78,7 +82,7 @@ Key a = keyOf a ≡ Len (length a)
 
 -- The key at `at`, which must come strictly after the key `prev`: else the fault is at the later key. Its value begins where it ends.
 unfoldable pub nextKeyOf : List ℕ → List ℕ → ℕ → Item
-nextKeyOf s prev at = andThen (readAt keyOf s at) (λ end. if keyBefore prev (part s at end) then Len end else Fault at)
+nextKeyOf s prev at = passing (readAt keyOf s at) (λ end. keyBefore prev (part s at end)) (λ end. at)
 
 -- n items, one after the other from `at`, each as `inside` reads it.
 unfoldable pub elementsOf : (List ℕ → Item) → ℕ → List ℕ → ℕ → Item

@@ -20,7 +20,7 @@ use Rattle.command.specs.Algorithms.{minusSeven}
 use Rattle.command.proofs.Runs.{byte-at}
 
 -- A byte that is not 0 is there.
-some : (s : List ℕ) (i : ℕ) → 0 < getD s i 0 → i < length s
+pub some : (s : List ℕ) (i : ℕ) → 0 < getD s i 0 → i < length s
 some s i h = go (ltb i (length s)) refl
   where
     go : (x : Bool) → ltb i (length s) ≡ x → i < length s

@@ -4,3 +4,6 @@ mod Arguments
 mod Same
 mod Values
 pub mod Answers
+mod Places
+mod Before
+mod Outcome

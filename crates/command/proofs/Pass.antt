@@ -247,8 +247,8 @@ module _ (c : Command) (s : List ℕ) (at mid p : ℕ) (k : FirstByte s at mid) 
   entry-through = rw (k .is) (through-entry c s (getD s at 0) (k .tail) p es (rowsOf c) (ascending c) (k .alone) first-after)
 
   module _ (all : List Entry) (wanted : ℕ) (ours : Bool) (w : Passed c s all wanted ours (entry (part s at mid) p ∷ es)) where
-    pub passed-wrong : (e : ℕ) → knownOf c s (getD s at 0) p ≡ Wrong e → throughOf c s all (rowsOf c) ≡ Wrong e
-    passed-wrong e h = w .values ∙ ap (inTurn (soFar ours)) entry-through ∙ met-wrong ours _ _ e h
+    pub passed-wrong : (e q : ℕ) → knownOf c s (getD s at 0) p ≡ Wrong e q → throughOf c s all (rowsOf c) ≡ Wrong e q
+    passed-wrong e q h = w .values ∙ ap (inTurn (soFar ours)) entry-through ∙ met-wrong ours _ _ e q h
 
     module _ (more : Bool) (g : (v : Value) → inTurn (soFar ours) (inTurn (knownOf c s (getD s at 0) p) v) ≡ inTurn (soFar more) v) where
       values : throughOf c s all (rowsOf c) ≡ inTurn (soFar more) (throughOf c s es (rowsOf c))

@@ -7,10 +7,10 @@ use Rattle.command.specs.declared.algorithms.Value.the-variants.{Wrong, 
 use Rattle.command.specs.Algorithms.{inTurn}
 use Rattle.command.specs.Pass.{soFar}
 
-pub met-wrong : (t : Bool) (x w : Value) (e : ℕ) → x ≡ Wrong e → inTurn (soFar t) (inTurn x w) ≡ Wrong e
+pub met-wrong : (t : Bool) (x w : Value) (e p : ℕ) → x ≡ Wrong e p → inTurn (soFar t) (inTurn x w) ≡ Wrong e p
 unfolding inTurn
-met-wrong true x w e h = rw h
-met-wrong false x w e h = rw h
+met-wrong true x w e p h = rw h
+met-wrong false x w e p h = rw h
 
 pub met-fine : (t : Bool) (x w : Value) → x ≡ Fine → inTurn (soFar t) (inTurn x w) ≡ inTurn (soFar t) w
 unfolding inTurn
@@ -18,7 +18,7 @@ met-fine t x w h = rw h
 
 ours-twice : (w : Value) → inTurn Ours (inTurn Ours w) ≡ inTurn Ours w
 unfolding inTurn
-ours-twice (Wrong e) = refl
+ours-twice (Wrong e p) = refl
 ours-twice Fine = refl
 ours-twice Ours = refl
 

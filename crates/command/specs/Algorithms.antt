@@ -32,27 +32,27 @@ isPublicKey s at = sameBytes (take 11 (drop at s)) publicKey
 unfoldable pub oursOf : List ℕ → ℕ → ℕ → Value
 oursOf s a t = if minusSeven s a then (if isPublicKey s t then Ours else Fine) else Fine
 
--- "type" absent 0x14, not text 0x11.
-unfoldable pub typeOf : List ℕ → List Entry → ℕ → Value
-typeOf s es a =
-    onFound (valueOf type es) (Wrong missingParameter)
-    (λ t. if eqb (majorAt s t) text then oursOf s a t else Wrong unexpectedType)
+-- "type" absent 0x14, at the entry; not text 0x11, at the value.
+unfoldable pub typeOf : List ℕ → ℕ → List Entry → ℕ → Value
+typeOf s at es a =
+    onFound (valueOf type es) (Wrong missingParameter at)
+    (λ t. if eqb (majorAt s t) text then oursOf s a t else Wrong unexpectedType t)
 
--- "alg" absent 0x14, not an integer 0x11.
-unfoldable pub algOf : List ℕ → List Entry → Value
-algOf s es =
-    onFound (valueOf alg es) (Wrong missingParameter)
-    (λ a. if ltb negative (majorAt s a) then Wrong unexpectedType else typeOf s es a)
+-- "alg" absent 0x14, at the entry; not an integer 0x11, at the value.
+unfoldable pub algOf : List ℕ → ℕ → List Entry → Value
+algOf s at es =
+    onFound (valueOf alg es) (Wrong missingParameter at)
+    (λ a. if ltb negative (majorAt s a) then Wrong unexpectedType a else typeOf s at es a)
 
--- An entry: not a map 0x11.
+-- The entry at `at`: not a map 0x11, at the entry.
 unfoldable pub entryOf : List ℕ → ℕ → Value
-entryOf s at = if eqb (majorAt s at) map then algOf s (mapAt 1 s at) else Wrong unexpectedType
+entryOf s at = if eqb (majorAt s at) map then algOf s at (mapAt 1 s at) else Wrong unexpectedType at
 
 -- Two values, one after the other: the first fault decides; one of ours is enough.
 unfoldable pub inTurn : Value → Value → Value
-inTurn (Wrong e) w = Wrong e
+inTurn (Wrong e p) w = Wrong e p
 inTurn Fine w = w
-inTurn Ours (Wrong e) = Wrong e
+inTurn Ours (Wrong e p) = Wrong e p
 inTurn Ours Fine = Ours
 inTurn Ours Ours = Ours
 

@@ -51,18 +51,22 @@ abbrev pub hashKey : Command → ℕ
 hashKey MakeCredential = 1
 hashKey GetAssertion = 2
 
--- Not 32 long: 0x03.
-unfoldable pub hashValue : List ℕ → ℕ → Value
-hashValue s at = if eqb (argumentAt s at) 32 then Fine else Wrong invalidLength
+-- The algorithms are key 4 of MakeCredential.
+abbrev pub algorithmsKey : ℕ
+algorithmsKey = 4
 
--- What a value of the right kind must hold: the hash, its 32 bytes; key 4 of MakeCredential, the algorithms.
+-- Not 32 long: 0x03, at the value.
+unfoldable pub hashValue : List ℕ → ℕ → Value
+hashValue s at = if eqb (argumentAt s at) 32 then Fine else Wrong invalidLength at
+
+-- What a value of the right kind must hold: the hash, its 32 bytes; the algorithms, their entries.
 unfoldable pub contentOf : Command → ℕ → List ℕ → ℕ → Value
-contentOf MakeCredential k s at = if eqb k 1 then hashValue s at else if eqb k 4 then algorithmsOf s (arrayAt 2 s at) else Fine
+contentOf MakeCredential k s at = if eqb k 1 then hashValue s at else if eqb k algorithmsKey then algorithmsOf s (arrayAt 2 s at) else Fine
 contentOf GetAssertion k s at = if eqb k 2 then hashValue s at else Fine
 
--- The value of a known key k, whose kind is m: wrong kind 0x11.
+-- The value of a known key k, whose kind is m: wrong kind 0x11, at the value.
 unfoldable pub parameterOf : Command → ℕ → ℕ → List ℕ → ℕ → Value
-parameterOf c k m s at = if eqb (majorAt s at) m then contentOf c k s at else Wrong unexpectedType
+parameterOf c k m s at = if eqb (majorAt s at) m then contentOf c k s at else Wrong unexpectedType at
 
 -- Go through the known keys in rising order. A known key is encoded as one byte, itself.
 unfoldable pub throughOf : Command → List ℕ → List Entry → List Row → Value

@@ -1,10 +1,12 @@
 -- What the code's own functions answer where it goes another way than the definitions: one pass over the entries, by the first byte of each key.
 use Prim.Native.Nat.{ℕ}
+use mathlib.Core.Path.{_≡_}
 use mathlib.Core.List.{List, [], _∷_}
 use mathlib.Core.Bool.{Bool, true, false}
 use lib.ListN.{length}
 use lib.Dec.{eqb, ltb}
 use Rattle.cbor.specs.Choice.{if_then_else_}
+use Rattle.cbor.specs.Item.{readAt, itemOf}
 use Rattle.cbor.specs.declared.Item.{Item}
 use Rattle.cbor.specs.declared.Item.the-variants.{Len, Fault}
 use Rattle.command.specs.declared.Checked.{Checked}
@@ -13,10 +15,14 @@ use Rattle.command.specs.declared.algorithms.Value.{Value}
 use Rattle.command.specs.declared.algorithms.Value.the-variants.{Fine, Ours}
 use Rattle.command.specs.declared.parameters.Command.{Command}
 use Rattle.command.specs.declared.parameters.Command.the-variants.{MakeCredential, GetAssertion}
-use Rattle.command.specs.Status.{missingParameter, unsupportedAlgorithm}
-use Rattle.command.specs.Map.{Entry}
+use Rattle.command.specs.Status.{missingParameter}
+use Rattle.command.specs.Map.{majorAt, map, Entry}
 use Rattle.command.specs.Parameters.{Row, rowsOf, parameterOf}
-use Rattle.command.specs.Check.{noneOurs, shownOf}
+use Rattle.command.specs.Check.{noneOurs, shownOf, unsupportedOf}
+
+-- After the command's byte there is one canonical map, and nothing after.
+abbrev pub OneMap : List ℕ → Type 0
+OneMap msg = (readAt (itemOf 4) msg 1 ≡ Len (length msg)) × (majorAt msg 1 ≡ map)
 
 -- Where an item ends; the message's end, where there is none.
 abbrev pub endOf : List ℕ → Item → ℕ
@@ -49,6 +55,6 @@ soFar false = Fine
 -- The answer after the last entry: `wanted` is the lowest key that was not met.
 unfoldable pub finishedOf : Command → List Entry → ℕ → Bool → Checked
 finishedOf c es wanted ours =
-    if ltb wanted (requiredEnd c) then Refused missingParameter
-    else if noneOurs c (soFar ours) then Refused unsupportedAlgorithm
+    if ltb wanted (requiredEnd c) then Refused missingParameter 1
+    else if noneOurs c (soFar ours) then unsupportedOf es
     else shownOf c es

@@ -12,9 +12,9 @@ ghost use Rattle.cbor.specs.declared.Item.the-variants.{Len};
 ghost use Rattle.command.specs.Map.{majorAt, map, array, arrayAt, mapAt};
 ghost use Rattle.command.specs.Algorithms.{minusSeven, isPublicKey, oursOf, typeOf, entryOf, algorithmsOf};
 
-// What a value or an entry is: wrong, with its status; fine; or fine and an algorithm of ours.
+// What a value or an entry is: wrong, with its status and its place; fine; or fine and an algorithm of ours.
 pub enum Value {
-    Wrong(u8),
+    Wrong(u8, usize),
     Fine,
     Ours,
 }
@@ -76,7 +76,7 @@ fn ours(msg: &[u8], alg: usize, kind: usize) -> Value
 // The "type" of the entry from `at` up to `end`, whose "alg" is an integer.
 fn type_of(msg: &[u8], at: usize, end: usize, alg: usize) -> Value
     requires { ⌜ (readAt (itemOf 2) (now msg) at ≡ Len end) × (majorAt (now msg) at ≡ map) ⌝ }
-    ensures { λ r. ⌜ r ≡ typeOf (now (msg .entry)) (mapAt 1 (now (msg .entry)) at) alg ⌝ }
+    ensures { λ r. ⌜ r ≡ typeOf (now (msg .entry)) at (mapAt 1 (now (msg .entry)) at) alg ⌝ }
 {
     let kind = walk::find(msg, at, end, 1, &TYPE);
     match kind {
@@ -84,10 +84,10 @@ fn type_of(msg: &[u8], at: usize, end: usize, alg: usize) -> Value
             if walk::major(msg, t) == TEXT {
                 ours(msg, alg, t)
             } else {
-                Value::Wrong(UNEXPECTED_TYPE)
+                Value::Wrong(UNEXPECTED_TYPE, t)
             }
         }
-        Found::Absent => Value::Wrong(MISSING_PARAMETER),
+        Found::Absent => Value::Wrong(MISSING_PARAMETER, at), // no "type"
     }
 }
 
@@ -97,18 +97,18 @@ fn entry(msg: &[u8], at: usize, end: usize) -> Value
     ensures { λ r. ⌜ r ≡ entryOf (now (msg .entry)) at ⌝ }
 {
     if walk::major(msg, at) != MAP {
-        return Value::Wrong(UNEXPECTED_TYPE);
+        return Value::Wrong(UNEXPECTED_TYPE, at);
     }
     let alg = walk::find(msg, at, end, 1, &ALG);
     match alg {
         Found::At(a) => {
             if NEGATIVE < walk::major(msg, a) {
-                Value::Wrong(UNEXPECTED_TYPE)
+                Value::Wrong(UNEXPECTED_TYPE, a)
             } else {
                 type_of(msg, at, end, a)
             }
         }
-        Found::Absent => Value::Wrong(MISSING_PARAMETER),
+        Found::Absent => Value::Wrong(MISSING_PARAMETER, at), // no "alg"
     }
 }
 
@@ -123,8 +123,8 @@ pub fn algorithms(msg: &[u8], at: usize, end: usize) -> Value
         let next = walk::item_end(msg, place, 2);
         let one = entry(msg, place, next);
         match one {
-            Value::Wrong(e) => {
-                return Value::Wrong(e);
+            Value::Wrong(e, p) => {
+                return Value::Wrong(e, p);
             }
             Value::Fine => {}
             Value::Ours => {

@@ -1,4 +1,4 @@
-// The checking call: whether a CBOR command is taken, and the status of one that is not.
+// The checking call: whether a CBOR command is taken, and of one that is not the status and the place of its fault.
 ghost use mathlib.Core.Path.{_≡_};
 ghost use Rattle.command.specs.declared.Checked.the-variants.{Good};
 ghost use Rattle.command.specs.Check.{hashOf, checkOf};
@@ -12,11 +12,12 @@ use parameters::Command;
 use status::INVALID_COMMAND;
 use status::INVALID_LENGTH;
 
-// A good GetInfo, another good command with the place where its 32 hash bytes begin, or the status of a refused one.
+// A good GetInfo, another good command with the place where its 32 hash bytes begin, or a refused one with its status and the place of its
+// fault. Places are counted from the command byte, which is 0.
 pub enum Checked {
     Info,
     Good(usize),
-    Refused(u8),
+    Refused(u8, usize),
 }
 
 const LONGEST: usize = 7609;
@@ -32,17 +33,17 @@ pub fn check(msg: &[u8]) -> Checked
     ensures { λ r. ⌜ r ≡ checkOf (now (msg .entry)) ⌝ }
 {
     if msg.len() == 0 {
-        return Checked::Refused(INVALID_LENGTH);
+        return Checked::Refused(INVALID_LENGTH, 0);
     }
     if LONGEST < msg.len() {
-        return Checked::Refused(INVALID_LENGTH);
+        return Checked::Refused(INVALID_LENGTH, 0);
     }
     let command = msg[0];
     if command == GET_INFO {
         if msg.len() == 1 {
             return Checked::Info;
         }
-        return Checked::Refused(INVALID_LENGTH);
+        return Checked::Refused(INVALID_LENGTH, 1);
     }
     if command == MAKE_CREDENTIAL {
         return parameters::parameters(msg, Command::MakeCredential);
@@ -50,7 +51,7 @@ pub fn check(msg: &[u8]) -> Checked
     if command == GET_ASSERTION {
         return parameters::parameters(msg, Command::GetAssertion);
     }
-    Checked::Refused(INVALID_COMMAND)
+    Checked::Refused(INVALID_COMMAND, 0)
 }
 
 // The 32 bytes from a place on; an empty part where the message has not as many.
@@ -73,6 +74,6 @@ pub fn hash(msg: &[u8], c: Checked) -> &[u8]
     match c {
         Checked::Info => &msg[..0],
         Checked::Good(at) => thirty_two(msg, at),
-        Checked::Refused(_) => &msg[..0],
+        Checked::Refused(_, _) => &msg[..0],
     }
 }

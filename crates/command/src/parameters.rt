@@ -17,15 +17,14 @@ use crate::walk::UNSIGNED;
 use cbor::Item;
 ghost use mathlib.Core.Path.{_≡_};
 ghost use mathlib.Core.List.{[], _∷_};
-ghost use mathlib.Core.Bool.{true};
 ghost use Prim.Native.Nat.{_<_};
 ghost use lib.ListN.{length};
 ghost use Rattle.cbor.specs.Item.{readAt, itemOf};
 ghost use Rattle.cbor.specs.declared.Item.the-variants.{Len};
 ghost use Rattle.command.specs.Map.{majorAt, bytes, mapAt, valueOf};
 ghost use Rattle.command.specs.Parameters.{rowsOf, hashKey, hashValue, contentOf, throughOf};
-ghost use Rattle.command.specs.Check.{noneOurs, shownOf, settledOf, oneMap, parametersOf};
-ghost use Rattle.command.specs.Pass.{kindIn, knownOf, requiredEnd, soFar, finishedOf};
+ghost use Rattle.command.specs.Check.{noneOurs, shownOf, unsupportedOf, settledOf, oneMap, parametersOf};
+ghost use Rattle.command.specs.Pass.{OneMap, kindIn, knownOf, requiredEnd, soFar, finishedOf};
 
 // A command with parameters.
 pub enum Command {
@@ -82,10 +81,10 @@ fn hash_value(msg: &[u8], at: usize) -> Value
     ensures { λ r. ⌜ r ≡ hashValue (now (msg .entry)) at ⌝ }
 {
     if walk::byte(msg, at) != BYTES_32[0] {
-        return Value::Wrong(INVALID_LENGTH);
+        return Value::Wrong(INVALID_LENGTH, at);
     }
     if walk::byte(msg, at + 1) != BYTES_32[1] {
-        return Value::Wrong(INVALID_LENGTH);
+        return Value::Wrong(INVALID_LENGTH, at);
     }
     Value::Fine
 }
@@ -124,7 +123,7 @@ fn known(msg: &[u8], c: Command, key: u8, at: usize, end: usize) -> Value
         return Value::Fine;
     }
     if walk::major(msg, at) != kind {
-        return Value::Wrong(UNEXPECTED_TYPE);
+        return Value::Wrong(UNEXPECTED_TYPE, at);
     }
     content(msg, c, key, at, end)
 }
@@ -149,52 +148,66 @@ fn none_ours(c: Command, ours: bool) -> bool
     }
 }
 
-// Where the client data hash begins, with its head.
-fn hash_at(msg: &[u8], c: Command) -> Found
-    requires { ⌜ oneMap (now msg) ≡ true ⌝ }
-    ensures { λ r. ⌜ r ≡ valueOf (hashKey c ∷ []) (mapAt 3 (now (msg .entry)) 1) ⌝ }
+// The key of the client data hash.
+fn hash_key(c: Command) -> u8
+    ensures { λ r. ⌜ r ≡ hashKey c ⌝ }
 {
     match c {
-        Command::MakeCredential => {
-            let key = [MAKE_CREDENTIAL_HASH];
-            walk::find(msg, 1, msg.len(), 3, &key)
-        }
-        Command::GetAssertion => {
-            let key = [GET_ASSERTION_HASH];
-            walk::find(msg, 1, msg.len(), 3, &key)
-        }
+        Command::MakeCredential => MAKE_CREDENTIAL_HASH,
+        Command::GetAssertion => GET_ASSERTION_HASH,
     }
+}
+
+// Where the value of a known key begins, with its head.
+fn value_of(msg: &[u8], key: u8) -> Found
+    requires { ⌜ OneMap (now msg) ⌝ }
+    ensures { λ r. ⌜ r ≡ valueOf (key ∷ []) (mapAt 3 (now (msg .entry)) 1) ⌝ }
+{
+    let encoded = [key];
+    walk::find(msg, 1, msg.len(), 3, &encoded)
 }
 
 // A good command, which shows where its hash begins: after a head of two bytes.
 fn shown(msg: &[u8], c: Command) -> Checked
-    requires { ⌜ oneMap (now msg) ≡ true ⌝ }
+    requires { ⌜ OneMap (now msg) ⌝ }
     ensures { λ r. ⌜ r ≡ shownOf c (mapAt 3 (now (msg .entry)) 1) ⌝ }
 {
-    let hash = hash_at(msg, c);
+    let hash = value_of(msg, hash_key(c));
     match hash {
         Found::At(p) => Checked::Good(p + 2),
-        Found::Absent => Checked::Refused(MISSING_PARAMETER),
+        Found::Absent => Checked::Refused(MISSING_PARAMETER, 1),
+    }
+}
+
+// A command with no algorithm of ours: the fault is at the array of algorithms.
+fn unsupported(msg: &[u8]) -> Checked
+    requires { ⌜ OneMap (now msg) ⌝ }
+    ensures { λ r. ⌜ r ≡ unsupportedOf (mapAt 3 (now (msg .entry)) 1) ⌝ }
+{
+    let array = value_of(msg, ALGORITHMS);
+    match array {
+        Found::At(p) => Checked::Refused(UNSUPPORTED_ALGORITHM, p),
+        Found::Absent => Checked::Refused(MISSING_PARAMETER, 1),
     }
 }
 
 // The answer after the last entry, where no value was wrong.
 fn finished(msg: &[u8], c: Command, wanted: u8, ours: bool) -> Checked
-    requires { ⌜ oneMap (now msg) ≡ true ⌝ }
+    requires { ⌜ OneMap (now msg) ⌝ }
     ensures { λ r. ⌜ r ≡ finishedOf c (mapAt 3 (now (msg .entry)) 1) wanted ours ⌝ }
 {
     if wanted < required_end(c) {
-        return Checked::Refused(MISSING_PARAMETER);
+        return Checked::Refused(MISSING_PARAMETER, 1);
     }
     if none_ours(c, ours) {
-        return Checked::Refused(UNSUPPORTED_ALGORITHM);
+        return unsupported(msg);
     }
     shown(msg, c)
 }
 
 // The known keys. Canonical keys rise, so one pass over the entries meets them in their order.
 fn through(msg: &[u8], c: Command) -> Checked
-    requires { ⌜ oneMap (now msg) ≡ true ⌝ }
+    requires { ⌜ OneMap (now msg) ⌝ }
     ensures { λ r. ⌜ r ≡ settledOf c (mapAt 3 (now (msg .entry)) 1) (throughOf c (now (msg .entry)) (mapAt 3 (now (msg .entry)) 1) (rowsOf c)) ⌝ }
 {
     let mut place = walk::inside(msg, 1);
@@ -206,8 +219,8 @@ fn through(msg: &[u8], c: Command) -> Checked
         let key = msg[place];
         let one = known(msg, c, key, mid, next);
         match one {
-            Value::Wrong(e) => {
-                return Checked::Refused(e);
+            Value::Wrong(e, p) => {
+                return Checked::Refused(e, p);
             }
             Value::Fine => {}
             Value::Ours => {
@@ -222,18 +235,26 @@ fn through(msg: &[u8], c: Command) -> Checked
     finished(msg, c, wanted, ours)
 }
 
-// Whether exactly one canonical map follows the command, and nothing after.
-fn one_map(msg: &[u8]) -> bool
+// The one canonical map that follows the command, with nothing after, or where the first fault stands. The map is read in the part that
+// begins after the command byte, so what is found there is one byte further on.
+fn one_map(msg: &[u8]) -> Item
     requires { ⌜ 0 < length (now msg) ⌝ }
     ensures { λ r. ⌜ r ≡ oneMap (now (msg .entry)) ⌝ }
 {
     if walk::major(msg, 1) != MAP {
-        return false;
+        return Item::Fault(1);
     }
     let found = cbor::read_item(&msg[1..], 4);
     match found {
-        Item::Len(n) => 1 + n == msg.len(),
-        Item::Fault(_) => false,
+        Item::Len(n) => {
+            let end = 1 + n;
+            if end == msg.len() {
+                Item::Len(end)
+            } else {
+                Item::Fault(end)
+            }
+        }
+        Item::Fault(p) => Item::Fault(1 + p),
     }
 }
 
@@ -242,9 +263,9 @@ pub fn parameters(msg: &[u8], c: Command) -> Checked
     requires { ⌜ 0 < length (now msg) ⌝ }
     ensures { λ r. ⌜ r ≡ parametersOf c (now (msg .entry)) ⌝ }
 {
-    if one_map(msg) {
-        through(msg, c)
-    } else {
-        Checked::Refused(INVALID_CBOR)
+    let map = one_map(msg);
+    match map {
+        Item::Len(_) => through(msg, c),
+        Item::Fault(p) => Checked::Refused(INVALID_CBOR, p),
     }
 }

@@ -10,7 +10,7 @@ use Rattle.cbor.specs.Item.{andThen, countedFrom, readAt, stringOf, textOf, byH
 use Rattle.command.specs.Map.{argumentIn, after, placesAt, entriesAt, counted, arrayAt, mapAt, sameBytes, valueOf, onFound}
 use Rattle.command.specs.Algorithms.{inTurn}
 use Rattle.command.specs.Parameters.{parameterOf, throughOf, requiredOf, absentOf}
-use Rattle.command.specs.Check.{shownOf, goodOf, settledOf, oneMap, parametersOf, commandOf as checkCommand, checkOf}
+use Rattle.command.specs.Check.{onRequired, shownOf, unsupportedOf, goodOf, settledOf, nothingAfter, oneMap, parametersIn, parametersOf, commandOf as checkCommand, checkOf}
 use Rattle.state.specs.Table.{_⇒_else_, all}
 use Rattle.state.specs.Order.{known, starts, toCore, messageInOrder, phaseInOrder, inOrder}
 use Rattle.table.specs.Opening.{ifHolder, standingOf, badLength, openingRows}
@@ -20,6 +20,6 @@ use Rattle.key.specs.Examples.{P}
 pub examples : P
 unfolding overwrite packetsNeeded begins room carries cut put packets bytes4 bytes2 filled channelOf opens commandOf lengthOf numberOf packetOf errorOn initReply
     firstOf majorOf argumentOf simpleOf shortestOf longHead headInForm headAfter headOf begunBy octetsAfter utf8 bytesBefore keyBefore andThen countedFrom readAt stringOf textOf byHead keyOfKind keyOf nextKeyOf elementsOf entriesOf itemOf
-    argumentIn after placesAt entriesAt counted arrayAt mapAt sameBytes valueOf onFound inTurn parameterOf throughOf requiredOf absentOf shownOf goodOf settledOf oneMap parametersOf checkCommand checkOf
+    argumentIn after placesAt entriesAt counted arrayAt mapAt sameBytes valueOf onFound inTurn parameterOf throughOf requiredOf absentOf onRequired shownOf unsupportedOf goodOf settledOf nothingAfter oneMap parametersIn parametersOf checkCommand checkOf
     _⇒_else_ all known starts toCore messageInOrder phaseInOrder inOrder ifHolder standingOf badLength openingRows carriedOut opening packetRows lent rows step
 examples = (refl, refl, refl, refl, refl, refl, refl, refl, refl, refl, refl, refl, refl, refl)

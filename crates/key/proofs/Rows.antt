@@ -42,7 +42,7 @@ module _ (w : Work) (h : Channel) (command n k left : ℕ) (payload m : List ℕ
 
 judged-silent : (w : Work) (h : Channel) (command n : ℕ) (m : List ℕ) (c : Checked) → judged w h command n m c .reply ≡ none
 unfolding judged
-judged-silent w h command n m (checked.Refused status) = refl
+judged-silent w h command n m (checked.Refused status place) = refl
 judged-silent w h command n m checked.Info = refl
 judged-silent w h command n m (checked.Good hash) = refl
 

@@ -54,7 +54,7 @@ fn judge(
     ensures { λ r. ⌜ effect r [] (now (message .exit)) ≡ asked [] (beside (s .given) (judged (s .work) holder command size (now (message .entry)) found)) ⌝ }
 {
     match found {
-        Checked::Refused(status) => {
+        Checked::Refused(status, _) => {
             message[0] = status;
             let phase = Phase::Answering {
                 holder,

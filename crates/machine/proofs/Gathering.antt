@@ -52,7 +52,7 @@ taken-step s m p space o a b c = rw (o, lent-enough p space (length m) a b c)
 
 judged-now : (w : Work) (f : Phase) (h : Channel) (command n : ℕ) (m : List ℕ) (r : Checked) → judged (now w f) h command n m r ≡ judged w h command n m r
 unfolding judged
-judged-now w f h command n m (checked.Refused status) = refl
+judged-now w f h command n m (checked.Refused status place) = refl
 judged-now w f h command n m checked.Info = refl
 judged-now w f h command n m (checked.Good hash) = refl
 

@@ -91,7 +91,7 @@ module _ (s : State) (m : List ℕ) (o : inOrder s ≡ true) where
     judged-kept : (h : Channel) (command n : ℕ) (m′ : List ℕ) (r : Checked) → known (s .given) h ≡ true → n ≤ longest → toCore command ≡ true
         → length m′ ≡ length m → Of (judged (s .work) h command n m′ r)
     unfolding judged
-    judged-kept h command n m′ (checked.Refused status) k l c e =
+    judged-kept h command n m′ (checked.Refused status place) k l c e =
         (answering h command 1 k (omega arith) (core-starts command c), length-set m′ 0 status ∙ e)
     judged-kept h command n m′ checked.Info k l c e = (state-made (s .given) _ (count-in-order s o) (waiting-made (s .given) h command n k l c), e)
     judged-kept h command n m′ (checked.Good hash) k l c e = (state-made (s .given) _ (count-in-order s o) (waiting-made (s .given) h command n k l c), e)

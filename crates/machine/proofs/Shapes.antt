@@ -60,7 +60,7 @@ module _ (s : State) (m : List ℕ) (e : Event) where
 
   judged-shape : (h : Channel) (command n : ℕ) (m′ : List ℕ) (r : Checked) → Of (judged (s .work) h command n m′ r)
   unfolding judged
-  judged-shape h command n m′ (checked.Refused status) = silence _ _
+  judged-shape h command n m′ (checked.Refused status place) = silence _ _
   judged-shape h command n m′ checked.Info = request h command n m′
   judged-shape h command n m′ (checked.Good hash) = request h command n m′
 

@@ -57,7 +57,7 @@ module _ (h : Channel) (command n left : ℕ) where
 
   judged-on : (w : Work) (m : List ℕ) (r : Checked) → GoesOn h command n left 0 (judged w h command n m r .state .phase)
   unfolding judged
-  judged-on w m (checked.Refused status) = ends 0 _ refl
+  judged-on w m (checked.Refused status place) = ends 0 _ refl
   judged-on w m checked.Info = ends 0 _ refl
   judged-on w m (checked.Good hash) = ends 0 _ refl
 

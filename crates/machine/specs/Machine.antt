@@ -78,7 +78,7 @@ handed w h command n m =
 
 -- a refused command is answering with one status byte, stored as byte 0 of the buffer
 unfoldable pub judged : Work → Channel → ℕ → ℕ → List ℕ → Checked → Turn Work
-judged w h command n m (checked.Refused status) = quiet (now w (Answering h command 1 0)) (set m 0 status)
+judged w h command n m (checked.Refused status place) = quiet (now w (Answering h command 1 0)) (set m 0 status)
 judged w h command n m checked.Info = handed w h command n m
 judged w h command n m (checked.Good hash) = handed w h command n m
 

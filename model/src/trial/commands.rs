@@ -1,15 +1,22 @@
 //! Random CBOR commands: good ones, and ones with a fault in a parameter, in the canonical form or
 //! in their bytes.
 
-use super::item::{self, Tree, BYTES, NEGATIVE, TEXT, UNSIGNED};
+use super::faults;
+use super::item;
 use super::random::Random;
+use super::tree::{Entries, Tree, BYTES, NEGATIVE, TEXT, UNSIGNED};
 use crate::packet::LONGEST;
 
-const MAKE_CREDENTIAL: u8 = 0x01;
+pub const MAKE_CREDENTIAL: u8 = 0x01;
 const GET_ASSERTION: u8 = 0x02;
-const GET_INFO: u8 = 0x04;
+pub const GET_INFO: u8 = 0x04;
 
-type Entries = Vec<(Tree, Tree)>;
+/// A command byte and the map that follows it.
+#[derive(Clone, Debug)]
+pub struct Command {
+    pub byte: u8,
+    pub entries: Entries,
+}
 
 /// Sizes around which packets are added, and the largest.
 const SIZES: [usize; 10] = [
@@ -43,39 +50,99 @@ pub fn command(random: &mut Random) -> Vec<u8> {
     }
 }
 
+/// A good MakeCredential or GetAssertion.
+pub fn good(random: &mut Random) -> Command {
+    loop {
+        let mut command = sound(random);
+        if random.once_in(3) {
+            let any = random.below(LONGEST);
+            let size = random.pick(&[any, any, LONGEST - 1, LONGEST]);
+            pad(random, &mut command, size);
+        }
+        if Tree::Map(command.entries.clone()).encoded().len() < LONGEST {
+            return command;
+        }
+    }
+}
+
 fn with_parameters(random: &mut Random) -> Vec<u8> {
-    let command = random.pick(&[MAKE_CREDENTIAL, GET_ASSERTION]);
-    let mut entries = if command == MAKE_CREDENTIAL {
-        make_credential(random)
-    } else {
-        get_assertion(random)
-    };
-    for _ in 0..random.below(3) {
-        entries.push((item::key(random), item::canonical(random, 3)));
+    let mut command = sound(random);
+    if random.once_in(20) {
+        let any = 1 + random.below(9) as u64;
+        command.add(Tree::unsigned(any), item::canonical(random, 3));
     }
-    if random.once_in(8) {
-        // Three levels are left inside the outer map.
-        let depth = random.pick(&[2, 3, 3, 4, 5]);
-        entries.push((item::key(random), item::nested(random, depth)));
+    if random.once_in(20) {
+        let too_deep = random.pick(&[4, 5]);
+        command.add(item::key(random), item::nested(random, too_deep));
     }
-    if random.once_in(4) {
-        parameter_fault(random, &mut entries);
+    if random.once_in(3) {
+        parameter_faults(random, &mut command);
     }
-    let mut entries = item::in_order(entries);
     if random.once_in(3) {
         let size = random.pick(&SIZES);
-        pad(random, &mut entries, size);
+        pad(random, &mut command, size);
     }
-    let mut map = Tree::Map(entries);
+    let mut map = Tree::Map(command.entries);
     if random.once_in(6) {
         item::damage(random, &mut map);
     }
-    let mut message = [vec![command], map.encoded()].concat();
+    let mut message = [vec![command.byte], map.encoded()].concat();
     if random.once_in(8) {
         item::damage_bytes(random, &mut message);
     }
     message.truncate(LONGEST);
     message
+}
+
+/// A MakeCredential or GetAssertion that has no fault, of any length.
+fn sound(random: &mut Random) -> Command {
+    let byte = random.pick(&[MAKE_CREDENTIAL, GET_ASSERTION]);
+    let entries = if byte == MAKE_CREDENTIAL {
+        make_credential(random)
+    } else {
+        get_assertion(random)
+    };
+    let mut command = Command { byte, entries };
+    for _ in 0..random.below(3) {
+        command.add(unknown_key(random), item::canonical(random, 3));
+    }
+    if random.once_in(8) {
+        // Three levels are left inside the outer map.
+        let depth = random.pick(&[2, 3, 3]);
+        command.add(unknown_key(random), item::nested(random, depth));
+    }
+    command
+}
+
+impl Command {
+    /// Adds a key with its value, in canonical order, unless the key is there.
+    fn add(&mut self, key: Tree, value: Tree) {
+        self.entries.push((key, value));
+        self.entries = item::in_order(std::mem::take(&mut self.entries));
+    }
+}
+
+/// One or two faults of the parameters; the canonical form stays.
+fn parameter_faults(random: &mut Random, command: &mut Command) {
+    for _ in 0..=random.below(2) {
+        let of_values = random.pick(&faults::OF_VALUES);
+        let fault = random.pick(&[
+            of_values,
+            of_values,
+            faults::absent_key,
+            faults::unsupported,
+        ]);
+        fault(random, command);
+    }
+}
+
+fn unknown_key(random: &mut Random) -> Tree {
+    loop {
+        let key = item::key(random);
+        if !matches!(key, Tree::Number(UNSIGNED, 1..=9)) {
+            return key;
+        }
+    }
 }
 
 /// The known keys of MakeCredential with values of their kinds.
@@ -135,16 +202,14 @@ fn unsigned(random: &mut Random) -> Tree {
     Tree::unsigned(item::number(random))
 }
 
-/// Key 4, mostly with the algorithm the key has; its entries have other keys too.
+/// Key 4, with the algorithm the key has; its entries have other keys too.
 fn algorithms(random: &mut Random) -> Tree {
     let mut entries: Vec<Tree> = (0..random.below(3))
         .map(|_| other_algorithm(random))
         .collect();
-    if !random.once_in(12) {
-        let at = random.below(entries.len() + 1);
-        let alg = Tree::Number(NEGATIVE, 6);
-        entries.insert(at, algorithm(random, alg, Tree::text("public-key")));
-    }
+    let at = random.below(entries.len() + 1);
+    let (alg, kind) = (Tree::Number(NEGATIVE, 6), Tree::text("public-key"));
+    entries.insert(at, algorithm(random, alg, kind));
     if random.once_in(40) {
         let more = (0..random.below(300)).map(|_| other_algorithm(random));
         entries.extend(more.collect::<Vec<_>>());
@@ -185,65 +250,16 @@ fn other_algorithm(random: &mut Random) -> Tree {
     algorithm(random, Tree::Number(major, argument), Tree::text(kind))
 }
 
-/// One fault of the kinds the parameters can have; the canonical form stays.
-fn parameter_fault(random: &mut Random, entries: &mut Entries) {
-    let at = random.below(entries.len().min(4));
-    match random.below(4) {
-        0 => {
-            entries.remove(at);
-        }
-        1 => entries[at].1 = item::canonical(random, 1),
-        2 => {
-            let length = random.pick(&[0, 31, 33, 64]);
-            let major = random.pick(&[BYTES, BYTES, BYTES, TEXT]);
-            for (_, value) in entries.iter_mut() {
-                if matches!(value, Tree::String(BYTES, hash) if hash.len() == 32) {
-                    *value = item::string(random, major, length);
-                    break;
-                }
-            }
-        }
-        _ => {
-            if let Some((_, Tree::Array(list))) = entries.get_mut(3) {
-                algorithm_fault(random, list);
-            }
-        }
-    }
-}
-
-/// A fault in one entry of key 4.
-fn algorithm_fault(random: &mut Random, list: &mut Vec<Tree>) {
-    let (alg, kind) = (Tree::Number(NEGATIVE, 6), Tree::text("public-key"));
-    let faulty = match random.below(7) {
-        0 => item::canonical(random, 1),
-        1 => Tree::Map(vec![(Tree::text("alg"), alg)]),
-        2 => Tree::Map(vec![(Tree::text("type"), kind)]),
-        3 => Tree::Map(vec![]),
-        4 => {
-            let alg = item::canonical(random, 1);
-            algorithm(random, alg, kind)
-        }
-        5 => {
-            let kind = item::canonical(random, 1);
-            algorithm(random, alg, kind)
-        }
-        _ => {
-            let keys = [Tree::text("alg"), Tree::text("type")];
-            let given = random.below(2);
-            let entries = keys.into_iter().skip(given);
-            let entries = entries.map(|key| (key, item::canonical(random, 0)));
-            Tree::Map(entries.collect())
-        }
+/// Brings a command to `size` bytes where that is possible: an unknown key takes a string of what is
+/// missing.
+fn pad(random: &mut Random, command: &mut Command, size: usize) {
+    // before all other keys, behind the known keys, or behind most
+    let key = match random.below(3) {
+        0 => Tree::unsigned(0),
+        1 => Tree::unsigned(10),
+        _ => Tree::text("padding"),
     };
-    let at = random.below(list.len() + 1);
-    list.insert(at, faulty);
-}
-
-/// Brings a command with these parameters to `size` bytes where that is possible: an unknown key
-/// takes a string of what is missing.
-fn pad(random: &mut Random, entries: &mut Entries, size: usize) {
-    let key = Tree::text("padding");
-    let bare = 1 + Tree::Map(entries.clone()).encoded().len() + key.encoded().len();
+    let bare = 1 + Tree::Map(command.entries.clone()).encoded().len() + key.encoded().len();
     // The string's own head is 1, 2 or 3 bytes long.
     let length = match size.saturating_sub(bare) {
         0 => return,
@@ -252,6 +268,5 @@ fn pad(random: &mut Random, entries: &mut Entries, size: usize) {
         room => room - 3,
     };
     let major = random.pick(&[BYTES, TEXT]);
-    entries.push((key, item::string(random, major, length)));
-    *entries = item::in_order(std::mem::take(entries));
+    command.add(key, item::string(random, major, length));
 }

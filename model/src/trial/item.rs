@@ -2,98 +2,14 @@
 
 use super::random::Random;
 use super::text;
-use crate::cbor::key_order;
+use super::tree::{head, head_of_form, Entries, Tree, BYTES, NEGATIVE, TAG, TEXT, UNSIGNED};
 
-/// Major types.
-pub const UNSIGNED: u8 = 0;
-pub const NEGATIVE: u8 = 1;
-pub const BYTES: u8 = 2;
-pub const TEXT: u8 = 3;
-pub const ARRAY: u8 = 4;
-pub const MAP: u8 = 5;
-const TAG: u8 = 6;
-
-/// An item as it is written. `Raw` bytes are written as they are, canonical or not.
-#[derive(Clone, Debug)]
-pub enum Tree {
-    Number(u8, u64),
-    String(u8, Vec<u8>),
-    Array(Vec<Tree>),
-    Map(Vec<(Tree, Tree)>),
-    Raw(Vec<u8>),
-}
-
-impl Tree {
-    pub fn unsigned(value: u64) -> Tree {
-        Tree::Number(UNSIGNED, value)
-    }
-
-    pub fn text(text: &str) -> Tree {
-        Tree::String(TEXT, text.as_bytes().to_vec())
-    }
-
-    pub fn bytes(bytes: Vec<u8>) -> Tree {
-        Tree::String(BYTES, bytes)
-    }
-
-    pub fn encoded(&self) -> Vec<u8> {
-        let mut out = Vec::new();
-        self.encode(&mut out);
-        out
-    }
-
-    fn encode(&self, out: &mut Vec<u8>) {
-        match self {
-            Tree::Number(major, value) => head(*major, *value, out),
-            Tree::String(major, content) => {
-                head(*major, content.len() as u64, out);
-                out.extend_from_slice(content);
-            }
-            Tree::Array(entries) => {
-                head(ARRAY, entries.len() as u64, out);
-                entries.iter().for_each(|entry| entry.encode(out));
-            }
-            Tree::Map(entries) => {
-                head(MAP, entries.len() as u64, out);
-                for (key, value) in entries {
-                    key.encode(out);
-                    value.encode(out);
-                }
-            }
-            Tree::Raw(bytes) => out.extend_from_slice(bytes),
-        }
-    }
-}
-
-/// Writes a head in its shortest form.
-fn head(major: u8, argument: u64, out: &mut Vec<u8>) {
-    let form = match argument {
-        0..=0x17 => 0,
-        0x18..=0xFF => 1,
-        0x100..=0xFFFF => 2,
-        0x1_0000..=0xFFFF_FFFF => 4,
-        _ => 8,
-    };
-    head_of_form(major, argument, form, out);
-}
-
-/// Writes a head whose argument takes `form` bytes: 0, 1, 2, 4 or 8.
-fn head_of_form(major: u8, argument: u64, form: usize, out: &mut Vec<u8>) {
-    let low = match form {
-        0 => argument as u8,
-        1 => 24,
-        2 => 25,
-        4 => 26,
-        _ => 27,
-    };
-    out.push(major << 5 | low);
-    out.extend_from_slice(&argument.to_be_bytes()[8 - form..]);
-}
-
-/// Puts the entries of a map into canonical order and leaves out keys that are there twice.
-pub fn in_order(mut entries: Vec<(Tree, Tree)>) -> Vec<(Tree, Tree)> {
-    entries.sort_by(|one, other| key_order(&one.0.encoded(), &other.0.encoded()));
-    entries.dedup_by(|one, other| one.0.encoded() == other.0.encoded());
+/// Puts the entries of a map into canonical order and leaves out keys that are there twice. On keys
+/// as they are written here the order is that of their bytes (request 2026-03), so the model's own
+/// comparison is not needed.
+pub fn in_order(mut entries: Entries) -> Entries {
+    entries.sort_by_key(|(key, _)| key.encoded());
+    entries.dedup_by(|one, other| one.0 == other.0);
     entries
 }
 
@@ -216,36 +132,30 @@ pub fn nested(random: &mut Random, depth: usize) -> Tree {
 
 /// The bytes of an item that breaks the canonical form by itself.
 pub fn breach(random: &mut Random) -> Tree {
-    let mut out = Vec::new();
     match random.below(9) {
+        0..=5 => bad_head(random),
+        6 => too_long(random),
+        _ => bad_text(random),
+    }
+}
+
+/// An item with a head that no canonical item has.
+pub fn bad_head(random: &mut Random) -> Tree {
+    let mut out = Vec::new();
+    match random.below(6) {
         0 | 1 => longer_form(random, &mut out),
-        // a length or count that no message holds
-        2 => {
-            let major = random.below(4) as u8 + BYTES;
-            let argument = random.pick(&[
-                7_609,
-                0xFFFF,
-                0x7FFF_FFFF,
-                0xFFFF_FFFF,
-                0x1_0000_0000,
-                i64::MAX as u64,
-                u64::MAX - 1,
-                u64::MAX,
-            ]);
-            head(major, argument, &mut out);
-        }
         // an indefinite length, with its end
-        3 => {
+        2 => {
             let major = random.below(4) as u8 + BYTES;
             out.extend_from_slice(&[major << 5 | 31, 0xFF]);
         }
         // a tag, well formed
-        4 => {
+        3 => {
             head(TAG, number(random), &mut out);
             out.push(0x00);
         }
         // a float or a simple value outside 20 to 23
-        5 => {
+        4 => {
             let first = random.pick(&[0xE0, 0xF3, 0xF8, 0xF9, 0xFA, 0xFB, 0xFF]);
             out.push(first);
             let content: usize = match first {
@@ -258,15 +168,38 @@ pub fn breach(random: &mut Random) -> Tree {
             out.extend_from_slice(&random.bytes(content));
         }
         // a head that RFC 7049 leaves unassigned
-        6 => out.push((random.below(8) as u8) << 5 | random.pick(&[28, 29, 30])),
-        7 => Tree::String(TEXT, text::bad(random)).encode(&mut out),
-        // a text that ends inside a character; the rest follows, as an array's or a map's head can
-        _ => {
-            let (text, missing) = text::cut(random);
-            Tree::String(TEXT, text).encode(&mut out);
-            out.extend_from_slice(&missing);
-        }
+        _ => out.push((random.below(8) as u8) << 5 | random.pick(&[28, 29, 30])),
     }
+    Tree::Raw(out)
+}
+
+/// The head of a string, an array or a map with a length or count that no message holds.
+fn too_long(random: &mut Random) -> Tree {
+    let mut out = Vec::new();
+    let major = random.below(4) as u8 + BYTES;
+    let argument = random.pick(&[
+        7_609,
+        0xFFFF,
+        0x7FFF_FFFF,
+        0xFFFF_FFFF,
+        0x1_0000_0000,
+        i64::MAX as u64,
+        u64::MAX - 1,
+        u64::MAX,
+    ]);
+    head(major, argument, &mut out);
+    Tree::Raw(out)
+}
+
+/// A text string that is no text.
+pub fn bad_text(random: &mut Random) -> Tree {
+    if random.once_in(2) {
+        return Tree::String(TEXT, text::bad(random));
+    }
+    // It ends inside a character; the rest follows, as an array's or a map's head can.
+    let (text, missing) = text::cut(random);
+    let mut out = Tree::String(TEXT, text).encoded();
+    out.extend_from_slice(&missing);
     Tree::Raw(out)
 }
 

@@ -2,12 +2,15 @@
 //! model and through the real program, and every answer is compared.
 //!
 //! [`writer`] writes the scripts, [`program`] runs the real program, [`run`] compares and
-//! [`shrink`] finds the shortest script that still shows a difference.
+//! [`shrink`] finds the shortest script that still shows a difference. [`breaches`] and [`faults`]
+//! put one thing that is wrong at a known place, so that the model's own answer can be tried too.
 
 use crate::packet::LONGEST;
 
+pub mod breaches;
 pub mod commands;
 mod events;
+pub mod faults;
 pub mod item;
 pub mod program;
 pub mod random;
@@ -17,6 +20,7 @@ pub mod shrink;
 mod states;
 pub mod tally;
 pub mod text;
+pub mod tree;
 pub mod writer;
 
 /// Message lengths around which packets are added.

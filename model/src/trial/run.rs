@@ -71,7 +71,8 @@ impl fmt::Display for Difference {
 }
 
 /// Runs the scripts of one seed after another until it is enough, and tells `progress` after each.
-/// The scripts are spread over the processors.
+/// The scripts are spread over the processors; of the differences found, the first seed's is
+/// reported, so that the same seed always gives the same report.
 pub fn compare(
     subject: &Subject,
     seed: u64,
@@ -80,19 +81,21 @@ pub fn compare(
 ) -> Result<Done, Box<Difference>> {
     let begin = Instant::now();
     let next = AtomicU64::new(0);
-    let state = Mutex::new((Done::default(), None));
+    let state = Mutex::new((Done::default(), None::<(u64, Vec<String>)>));
     let workers = thread::available_parallelism().map_or(1, usize::from);
+    let seed_of = |number| seed.wrapping_add(number);
     let work = || loop {
-        let seed = seed.wrapping_add(next.fetch_add(1, Ordering::Relaxed));
+        let number = next.fetch_add(1, Ordering::Relaxed);
+        let seed = seed_of(number);
         let (script, tally) = write_script(seed, events_of(seed));
         let differs = first_difference(&script, &subject(&script.lines)).is_some();
         let mut state = state.lock().unwrap_or_else(|broken| broken.into_inner());
         let (done, differing) = &mut *state;
-        if differing.is_some() {
-            return;
+        let is_first = differing.as_ref().is_none_or(|(first, _)| number < *first);
+        if differs && is_first {
+            *differing = Some((number, script.lines));
         }
-        if differs {
-            *differing = Some((seed, script.lines));
+        if differing.is_some() {
             return;
         }
         done.scripts += 1;
@@ -117,7 +120,10 @@ pub fn compare(
         .unwrap_or_else(|broken| broken.into_inner());
     match differing {
         None => Ok(done),
-        Some((seed, lines)) => Err(Box::new(shortest_difference(subject, Some(seed), lines))),
+        Some((number, lines)) => {
+            let seed = Some(seed_of(number));
+            Err(Box::new(shortest_difference(subject, seed, lines)))
+        }
     }
 }
 

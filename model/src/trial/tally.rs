@@ -31,7 +31,11 @@ impl Tally {
             Line::Check(_) | Line::Item(..) => String::new(),
             _ => format!("{} ", phase(key)),
         };
-        let case = format!("{phase}{case}: {}", kind_of_answer(answer));
+        let length = match event {
+            Line::Check(bytes) | Line::Item(_, bytes) => bytes.len(),
+            _ => 0,
+        };
+        let case = format!("{phase}{case}: {}", kind_of_answer(answer, length));
         *self.0.entry(case).or_default() += 1;
     }
 
@@ -92,8 +96,8 @@ fn is_whole_text(bytes: &[u8]) -> bool {
     }
 }
 
-/// The answer without what differs from case to case.
-fn kind_of_answer(answer: &str) -> String {
+/// The answer to a line with this many bytes, without what differs from case to case.
+fn kind_of_answer(answer: &str, length: usize) -> String {
     let words: Vec<&str> = answer.split_whitespace().collect();
     match words[..] {
         ["ok", "ticket", _] => "ticket".to_string(),
@@ -103,7 +107,25 @@ fn kind_of_answer(answer: &str) -> String {
             _ => "packet".to_string(),
         },
         ["good", "hash", _] => "good hash".to_string(),
+        ["status", status, "at", place] => {
+            let place = place
+                .parse()
+                .map_or("nowhere", |place| sort_of_place(place, length));
+            format!("status {status} {place}")
+        }
         ["item", _] => "item".to_string(),
         _ => words.join(" "),
+    }
+}
+
+/// Where in this many bytes a fault is.
+fn sort_of_place(place: usize, length: usize) -> &'static str {
+    match place {
+        0 => "at 0",
+        1 => "at 1",
+        _ if place == length => "at the length",
+        4_096.. => "beyond 4095",
+        256.. => "beyond 255",
+        _ => "below 256",
     }
 }

@@ -270,10 +270,10 @@ module _ (t : ℕ) where
   next-key-key-before-requires c κs = (c .before .before .before .before .before .before .pre .1 .3, read-is-key _ _ (here keyOf _ _ (c .before .before .before .key-extent .ensures)) (c .before .before .if1 .left))
 
   next-key-returns-2 : next-key-lts.Need-returns-2 next-key-calls next-key-at next-key.Post
-  next-key-returns-2 c = sym (ap asNumber (next-good _ _ _ (here keyOf _ _ (c .before .before .before .before .before .key-extent .ensures)) (c .before .before .before .before .if1 .left) (sym (c .before .key-before .ensures) ∙ c .if2 .taken)))
+  next-key-returns-2 c = next-good _ _ _ (here keyOf _ _ (c .before .before .before .before .before .key-extent .ensures)) (c .before .before .before .before .if1 .left) (sym (c .before .key-before .ensures) ∙ c .if2 .taken)
 
   next-key-returns-3 : next-key-lts.Need-returns-3 next-key-calls next-key-at next-key.Post
-  next-key-returns-3 c = sym (ap asNumber (next-late _ _ _ (here keyOf _ _ (c .before .before .before .before .before .key-extent .ensures)) (c .before .before .before .before .if1 .left) (sym (c .before .key-before .ensures) ∙ c .if2 .left)))
+  next-key-returns-3 c = next-late _ _ _ (here keyOf _ _ (c .before .before .before .before .before .key-extent .ensures)) (c .before .before .before .before .if1 .left) (sym (c .before .key-before .ensures) ∙ c .if2 .left)
 
 pub +elements+entries+extent+extent-by-head+key-extent+next-key-spec : {M : Type 1} → statement M
 +elements+entries+extent+extent-by-head+key-extent+next-key-spec =

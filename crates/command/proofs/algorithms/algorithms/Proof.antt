@@ -48,7 +48,7 @@ returns c = let a = c .before .before .before .before .before .before .before .b
     let s = a .msg .now in
     let l = c .before .before .before .before .before .before .loop in
     let w = step (c .before .before .before .before) in
-    sym (w .left .holds ∙ met-wrong (l .ours) (entryOf s (l .place)) (algorithmsOf s (placesAt (itemOf 2) (w .left .n) s (c .before .before .before .before .item-end .result))) _ (sym (c .before .before .before .entry .ensures) ∙ c .before .one .given .1))
+    sym (w .left .holds ∙ met-wrong (l .ours) (entryOf s (l .place)) (algorithmsOf s (placesAt (itemOf 2) (w .left .n) s (c .before .before .before .before .item-end .result))) _ _ (sym (c .before .before .before .entry .ensures) ∙ c .before .one .given .1))
 
 loop-less : tie.Need-loop-less Inv-loop μ-loop
 loop-less c = let w = step (c .before .before .before) in omega (arith, w .on, w .fits)

@@ -13,8 +13,8 @@ returns c = let a = c .before .before .before .args in
 
 returns-2 : tie.Need-returns-2
 unfolding finishedOf
-returns-2 c = let a = c .before .before .before .before .before .args in
-    rw (le-ltb (a .wanted) (requiredEnd (a .c)) (omega (arith, c .before .before .if1 .left, c .before .before .before .required-end .ensures)), ← c .before .none-ours .ensures, c .if2 .taken)
+returns-2 c = let a = c .before .before .before .before .before .before .args in
+    rw (le-ltb (a .wanted) (requiredEnd (a .c)) (omega (arith, c .before .before .before .if1 .left, c .before .before .before .before .required-end .ensures)), ← c .before .before .none-ours .ensures, c .before .if2 .taken) (c .unsupported .ensures)
 
 returns-3 : tie.Need-returns-3
 unfolding finishedOf
@@ -24,4 +24,11 @@ returns-3 c = let a = c .before .before .before .before .before .before .args in
 pub finished-spec : {M : Type 1} → statement M
 finished-spec =
     tie.close
-    (tie.spec (λ c κs. search needs) returns (λ c κs. search needs) returns-2 (λ c κs. search needs) returns-3)
+    (tie.spec
+    (λ c κs. search needs)
+    returns
+    (λ c κs. search needs)
+    (λ c κs. search needs)
+    returns-2
+    (λ c κs. search needs)
+    returns-3)

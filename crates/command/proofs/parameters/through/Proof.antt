@@ -13,7 +13,6 @@ use Rattle.command.specs.Pass.{knownOf, soFar}
 use Rattle.command.specs.Check.{settledOf}
 use Rattle.command.specs.Algorithms.{inTurn}
 use Rattle.command.specs.Map.{mapAt}
-use Rattle.command.proofs.Answers.{one-map}
 use Rattle.command.proofs.Values.{met-fine, met-ours}
 use Rattle.command.proofs.Pass.{Rising, FirstByte, first-byte, map-rising, Passed, passed-none, passed-wrong, passed-met, passed-other, passed-all}
 use Rattle.command.proofs.Runs.{MapLeft, MapStep, map-start, map-step, map-done, map-next, map-again, map-value, item-fits}
@@ -55,12 +54,12 @@ more c v =
 
 inside-requires : tie.Need-inside-requires Inv-loop μ-loop
 inside-requires c κs = let s = c .before .args .msg .now in
-    omega (arith, item-fits 4 s 1 _ (one-map s (c .before .pre) .0) .0)
+    omega (arith, item-fits 4 s 1 _ (c .before .pre .0) .0)
 
 loop-holds : tie.Need-loop-holds Inv-loop μ-loop
 loop-holds c = let a = c .before .before .args in
     let s = a .msg .now in
-    let m = one-map s (c .before .before .pre) in
+    let m = c .before .before .pre in
     map-start 3 s 1 (length s) _ (m .0) (m .1) (c .inside .ensures) _ (passed-none (a .c) s (mapAt 3 s 1))
 
 item-end-requires : tie.Need-item-end-requires Inv-loop μ-loop
@@ -76,7 +75,7 @@ returns c = let a = c .before .before .before .before .before .before .before .b
     let l = c .before .before .before .before .before .before .before .before .loop in
     let k = c .before .before .before .before .before .before in
     let w = step k in
-    sym (ap (settledOf (a .c) (mapAt 3 s 1)) (passed-wrong (a .c) s (l .place) (k .key-end .result) (k .key-end .result) (first k) _ (w .left .holds .1) (mapAt 3 s 1) (l .wanted) (l .ours) (w .left .holds .0) _ (sym (c .before .before .before .known .ensures) ∙ c .before .one .given .1)))
+    sym (ap (settledOf (a .c) (mapAt 3 s 1)) (passed-wrong (a .c) s (l .place) (k .key-end .result) (k .key-end .result) (first k) _ (w .left .holds .1) (mapAt 3 s 1) (l .wanted) (l .ours) (w .left .holds .0) _ _ (sym (c .before .before .before .known .ensures) ∙ c .before .one .given .1)))
 
 add-wanted : tie.Need-add-wanted Inv-loop μ-loop
 add-wanted c = let k = first (c .before .before .before .before .before) in omega (arith, k .low, c .if1 .taken)
