@@ -18,9 +18,9 @@ use Rattle.cbor.specs.declared.head.Head.the-variants.{Of, Bad}
 use Rattle.cbor.specs.declared.Item.{Item}
 use Rattle.cbor.specs.declared.Item.the-variants.{Len, Fault}
 use Rattle.cbor.proofs.Heads.{shape}
-use Rattle.cbor.proofs.Inside.{fault-len, next-key, read-part}
+use Rattle.cbor.proofs.Inside.{fault-len, fault-fault, next-key, read-part, read-fault}
 use Rattle.cbor.proofs.Readers.{Plain, bad, plain}
-use Rattle.cbor.proofs.FirstFault.{fault-fault, plain-fault, read-fault, next-fault}
+use Rattle.cbor.proofs.FirstFault.{plain-fault, next-fault}
 
 abbrev There : ℕ → List ℕ → ℕ → Type 0
 There levels s p = BadItem s p ⊎ TooDeep levels s p ⊎ BadKey s p

@@ -22,12 +22,9 @@ use Rattle.cbor.specs.declared.Item.{Item}
 use Rattle.cbor.specs.declared.Item.the-variants.{Len, Fault}
 use Rattle.cbor.proofs.Heads.{head-none}
 use Rattle.cbor.proofs.Items.{Within, Bounded, read-within, item-within, read-fits, key-none}
-use Rattle.cbor.proofs.Inside.{fault-len, next-key, read-part}
+use Rattle.cbor.proofs.Inside.{fault-len, fault-fault, next-key, read-part, read-fault}
 use Rattle.cbor.proofs.Alone.{Begins, begins-take, fewer, further, Same, head-same, read-same, next-same, part-same, item-same}
 use Rattle.cbor.proofs.Readers.{item-none}
-
-pub fault-fault : {p q : ℕ} → Fault p ≡ Fault q → p ≡ q
-fault-fault e = cc
 
 -- t is the first p bytes of s.
 record Cut (s t : List ℕ) (p : ℕ) : Type 0 where
@@ -77,15 +74,6 @@ key-fault s p e = go (headOf s) e
     go : (x : Head) → byHead keyOfKind x s ≡ Fault p → p ≡ 0
     go (Of k v l) g = by-kind k v l (isKey k) g
     go Bad g = sym (fault-fault g)
-
--- A fault that was found in the part that begins at `at`.
-pub read-fault : (f : List ℕ → Item) (s : List ℕ) (at p : ℕ) → readAt f s at ≡ Fault p → (at ≤ p) × (f (drop at s) ≡ Fault (p - at))
-unfolding readAt countedFrom
-read-fault f s at p e = go (f (drop at s)) e
-  where
-    go : (x : Item) → countedFrom at x ≡ Fault p → (at ≤ p) × (x ≡ Fault (p - at))
-    go (Len n) h = fault-len (sym h)
-    go (Fault q) h = let i : at + q ≡ p = fault-fault h in (omega arith, ap Fault (omega arith))
 
 read-none : (f : List ℕ → Item) → ((s : List ℕ) → length s ≡ 0 → f s ≡ Fault 0) → (s : List ℕ) (at : ℕ) → length s ≡ at → readAt f s at ≡ Fault at
 unfolding readAt countedFrom

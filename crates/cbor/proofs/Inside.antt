@@ -25,6 +25,9 @@ fault-len e = let z : _≡_ {A = ℕ} 0 1 = cc in absurd (omega arith)
 pub len-len : {m n : ℕ} → Len m ≡ Len n → m ≡ n
 len-len e = cc
 
+pub fault-fault : {p q : ℕ} → Fault p ≡ Fault q → p ≡ q
+fault-fault e = cc
+
 -- A string that was read whole ends v bytes after its head.
 pub string-size : (v l n : ℕ) (s : List ℕ) → stringOf v l s ≡ Len n → n ≡ l + v
 unfolding stringOf
@@ -57,6 +60,14 @@ read-part f s at end e = go (f (drop at s)) e
     go : (x : Item) → countedFrom at x ≡ Len end → (at ≤ end) × (x ≡ Len (end - at))
     go (Len k) h = let i : at + k ≡ end = len-len h in (omega arith, ap Len (omega arith))
     go (Fault p) h = fault-len h
+
+pub read-fault : (f : List ℕ → Item) (s : List ℕ) (at p : ℕ) → readAt f s at ≡ Fault p → (at ≤ p) × (f (drop at s) ≡ Fault (p - at))
+unfolding readAt countedFrom
+read-fault f s at p e = go (f (drop at s)) e
+  where
+    go : (x : Item) → countedFrom at x ≡ Fault p → (at ≤ p) × (x ≡ Fault (p - at))
+    go (Len n) h = fault-len (sym h)
+    go (Fault q) h = let i : at + q ≡ p = fault-fault h in (omega arith, ap Fault (omega arith))
 
 -- The contents of an array and of a map, by the head.
 module _ (levels : ℕ) (s : List ℕ) (v l : ℕ) {x : Item} (e : itemOf (suc levels) s ≡ x) where

@@ -36,15 +36,15 @@ andThen (Fault p) g = Fault p
 abbrev pub passing : Item → (ℕ → Bool) → (ℕ → ℕ) → Item
 passing x test place = andThen x (λ end. if test end then Len end else Fault (place end))
 
--- A string of v bytes after its head.
+-- A string of v bytes after its head. Where they are cut short the fault is at its first byte.
 unfoldable pub stringOf : ℕ → ℕ → List ℕ → Item
 stringOf v l s = if leb v (length s - l) then Len (l + v) else Fault 0
 
--- A text is a string that is UTF-8. The fault of one that is not is the item's.
+-- A text is a string that is UTF-8; of one that is not the fault is at its first byte.
 unfoldable pub textOf : ℕ → ℕ → List ℕ → Item
 textOf v l s = passing (stringOf v l s) (λ end. utf8 (part s l end)) (λ end. 0)
 
--- An item that holds no other. An array or a map needs a level, even an empty one.
+-- An item that holds no other. An array or a map needs a level, even an empty one: a level too many is a fault at its first byte.
 abbrev pub plainOf : Kind → ℕ → ℕ → List ℕ → Item
 plainOf Unsigned v l s = Len l
 plainOf Negative v l s = Len l
@@ -54,7 +54,7 @@ plainOf Array v l s = Fault 0
 plainOf Map v l s = Fault 0
 plainOf Simple v l s = Len l
 
--- Keys are integers, byte or text strings.
+-- Keys are integers, byte or text strings; a key of another kind is a fault at its first byte.
 abbrev pub isKey : Kind → Bool
 isKey Unsigned = true
 isKey Negative = true
@@ -67,7 +67,8 @@ isKey Simple = false
 unfoldable pub keyOfKind : Kind → ℕ → ℕ → List ℕ → Item
 keyOfKind k v l s = if isKey k then plainOf k v l s else Fault 0
 
--- The head decides how an item goes on, as g says; a bad head is a fault.
+-- The head decides how an item goes on, as g says; a bad head is a fault at its first byte. A missing item has no head, so its fault is where
+-- the bytes end.
 unfoldable pub byHead : (Kind → ℕ → ℕ → List ℕ → Item) → Head → List ℕ → Item
 byHead g (Of k v l) s = g k v l s
 byHead g Bad s = Fault 0
@@ -80,7 +81,8 @@ keyOf s = byHead keyOfKind (headOf s) s
 abbrev pub Key : List ℕ → Type 0
 Key a = keyOf a ≡ Len (length a)
 
--- The key at `at`, which must come strictly after the key `prev`: else the fault is at the later key. Its value begins where it ends.
+-- The key at `at`, which must come strictly after the key `prev`: else the fault is at the later key. Its own form is looked at before that. Its
+-- value begins where it ends.
 unfoldable pub nextKeyOf : List ℕ → List ℕ → ℕ → Item
 nextKeyOf s prev at = passing (readAt keyOf s at) (λ end. keyBefore prev (part s at end)) (λ end. at)
 

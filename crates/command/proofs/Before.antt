@@ -14,9 +14,9 @@ use Rattle.cbor.specs.Item.{readAt, andThen, itemOf}
 use Rattle.cbor.specs.declared.Item.{Item}
 use Rattle.cbor.specs.declared.Item.the-variants.{Len, Fault}
 use Rattle.cbor.proofs.Items.{item-within, read-fits}
-use Rattle.cbor.proofs.Inside.{fault-len}
+use Rattle.cbor.proofs.Inside.{fault-len, fault-fault, read-fault}
 use Rattle.cbor.proofs.Alone.{begins-take, read-same, item-same}
-use Rattle.cbor.proofs.FirstFault.{fault-fault, read-fault, first-fault-at}
+use Rattle.cbor.proofs.FirstFault.{first-fault-at}
 use Rattle.command.specs.declared.parameters.Command.{Command}
 use Rattle.command.specs.declared.parameters.Command.the-variants.{MakeCredential, GetAssertion}
 use Rattle.command.specs.Map.{majorAt, map}

@@ -44,9 +44,13 @@ noneOurs MakeCredential Fine = true
 noneOurs MakeCredential Ours = false
 noneOurs GetAssertion v = false
 
--- By where the value of a required key begins; an absent one is 0x14, at 1.
+-- A required key absent: 0x14, at 1.
+abbrev pub keyAbsent : Checked
+keyAbsent = Refused missingParameter 1
+
+-- By where the value of a required key begins.
 unfoldable pub onRequired : ℕ → List Entry → (ℕ → Checked) → Checked
-onRequired k es g = onFound (valueOf (k ∷ []) es) (Refused missingParameter 1) g
+onRequired k es g = onFound (valueOf (k ∷ []) es) keyAbsent g
 
 -- A good command shows its hash, which stands after a head of two bytes.
 unfoldable pub shownOf : Command → List Entry → Checked
@@ -56,10 +60,10 @@ shownOf c es = onRequired (hashKey c) es (λ at. Good (at + 2))
 unfoldable pub unsupportedOf : List Entry → Checked
 unsupportedOf es = onRequired algorithmsKey es (λ at. Refused unsupportedAlgorithm at)
 
--- Then a required key absent: 0x14, at 1. Then, for MakeCredential, no entry that is ours: 0x26.
+-- After the known keys, a required key absent; then, for MakeCredential, no entry that is ours.
 unfoldable pub goodOf : Command → List Entry → Value → Checked
 goodOf c es v =
-    if absentOf es (requiredOf (rowsOf c)) then Refused missingParameter 1
+    if absentOf es (requiredOf (rowsOf c)) then keyAbsent
     else if noneOurs c v then unsupportedOf es
     else shownOf c es
 

@@ -10,15 +10,13 @@ use Rattle.cbor.specs.Item.{readAt, itemOf}
 use Rattle.cbor.specs.declared.Item.{Item}
 use Rattle.cbor.specs.declared.Item.the-variants.{Len, Fault}
 use Rattle.command.specs.declared.Checked.{Checked}
-use Rattle.command.specs.declared.Checked.the-variants.{Refused}
 use Rattle.command.specs.declared.algorithms.Value.{Value}
 use Rattle.command.specs.declared.algorithms.Value.the-variants.{Fine, Ours}
 use Rattle.command.specs.declared.parameters.Command.{Command}
 use Rattle.command.specs.declared.parameters.Command.the-variants.{MakeCredential, GetAssertion}
-use Rattle.command.specs.Status.{missingParameter}
 use Rattle.command.specs.Map.{majorAt, map, Entry}
 use Rattle.command.specs.Parameters.{Row, rowsOf, parameterOf}
-use Rattle.command.specs.Check.{noneOurs, shownOf, unsupportedOf}
+use Rattle.command.specs.Check.{noneOurs, keyAbsent, shownOf, unsupportedOf}
 
 -- After the command's byte there is one canonical map, and nothing after.
 abbrev pub OneMap : List ℕ → Type 0
@@ -55,6 +53,6 @@ soFar false = Fine
 -- The answer after the last entry: `wanted` is the lowest key that was not met.
 unfoldable pub finishedOf : Command → List Entry → ℕ → Bool → Checked
 finishedOf c es wanted ours =
-    if ltb wanted (requiredEnd c) then Refused missingParameter 1
+    if ltb wanted (requiredEnd c) then keyAbsent
     else if noneOurs c (soFar ours) then unsupportedOf es
     else shownOf c es
