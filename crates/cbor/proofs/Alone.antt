@@ -12,7 +12,6 @@ use borrow.Author.Tests.{le-leb}
 use Rattle.cbor.specs.Choice.{if_then_else_}
 use Rattle.cbor.specs.Bytes.{u8At, u16At, u32At, u64At}
 use Rattle.cbor.specs.Head.{firstOf, shortestOf, longHead, headInForm, headAfter, headOf}
-use Rattle.cbor.specs.Order.{keyBefore}
 use Rattle.cbor.specs.Item.{part, countedFrom, readAt, andThen, stringOf, textOf, plainOf, isKey, keyOfKind, byHead, keyOf, Key, nextKeyOf, elementsOf, entriesOf, nestedOf, itemOf}
 use Rattle.cbor.specs.declared.head.Kind.{Kind}
 use Rattle.cbor.specs.declared.head.Kind.the-variants.{Unsigned, Negative, Bytes, Text, Array, Map, Simple}
@@ -23,8 +22,9 @@ use Rattle.cbor.specs.declared.head.Head.the-variants.{Of, Bad}
 use Rattle.cbor.specs.declared.Item.{Item}
 use Rattle.cbor.specs.declared.Item.the-variants.{Len, Fault}
 use Rattle.cbor.proofs.Heads.{shape, head-some}
-use Rattle.cbor.proofs.Items.{Bounded, key-within, item-within, read-fits}
-use Rattle.cbor.proofs.Inside.{fault-len, len-len, string-size, text-inside, read-part, next-item, items-fit, next-key, next-entry, entries-fit}
+use Rattle.cbor.proofs.Items.{nested-plain, by-nesting, Bounded, key-within, item-within, read-fits}
+use Rattle.cbor.proofs.Inside.{fault-len, len-len, string-size, text-inside, read-part, next-item, items-fit, next-key, next-later, entries-fit}
+use Rattle.cbor.proofs.Broken.{Run, run-later, run-on, entries-run}
 
 bad-of : {A : Type 0} {k : Kind} {v l : ℕ} → Bad ≡ Of k v l → A
 bad-of e = let z : _≡_ {A = ℕ} 0 1 = cc in absurd (omega arith)
@@ -94,7 +94,7 @@ unfolding stringOf
 string-same v l n s t f e = let i = string-size v l n s e in (omega arith, rw (le-leb v (length t - l) (omega arith)) (ap Len (sym i)))
 
 -- The bytes of a part that ends where these do.
-pub part-same : (l n : ℕ) (s t : List ℕ) → l ≤ n → Begins s t n → part t l n ≡ part s l n
+part-same : (l n : ℕ) (s t : List ℕ) → l ≤ n → Begins s t n → part t l n ≡ part s l n
 part-same l n s t h w =
     let a = length-take-le (n - l) (drop l s) (omega (arith, length-drop l s, w .whole)) in
     let b = length-take-le (n - l) (drop l t) (omega (arith, length-drop l t, w .fits)) in
@@ -151,8 +151,23 @@ next-same s t prev at mid w e =
     let p = part-same at mid s t (read-part keyOf s at mid (k .0) .0) w in
     rw (read-same keyOf key-same s t at mid w (k .0), p, k .1)
 
+pub run-same : (f : List ℕ → Item) → Same f → (s t : List ℕ) (place : ℕ) → Begins s t place → (k : ℕ) (prev : List ℕ) (at : ℕ) (key : List ℕ) → Run f s k prev at key place → Run f t k prev at key place
+run-same f m s t place w zero prev at key r = r
+run-same f m s t place w (suc k) prev at key r =
+    let l = run-later f s k (part s at (r .mid)) (r .next) key place (r .rest) in
+    let v = read-part f s (r .mid) (r .next) (r .value) .0 in
+    let a = next-later s prev at (r .mid) (r .key) in
+    let g : Begins s t (r .mid) = fewer (r .mid) (omega arith) w in
+    record {
+      mid = r .mid;
+      next = r .next;
+      key = next-same s t prev at (r .mid) g (r .key);
+      value = read-same f m s t (r .mid) (r .next) (fewer (r .next) l w) (r .value);
+      rest = rw (part-same at (r .mid) s t a g) (run-same f m s t place w k (part s at (r .mid)) (r .next) key (r .rest));
+    }
+
 module _ (f : List ℕ → Item) (m : Same f) (b : Bounded f) (s t : List ℕ) (end : ℕ) (w : Begins s t end) where
-  elements-same : (n at : ℕ) → at ≤ length s → elementsOf f n s at ≡ Len end → elementsOf f n t at ≡ Len end
+  pub elements-same : (n at : ℕ) → at ≤ length s → elementsOf f n s at ≡ Len end → elementsOf f n t at ≡ Len end
   unfolding elementsOf andThen
   elements-same zero at h e = e
   elements-same (suc n) at h e =
@@ -161,27 +176,20 @@ module _ (f : List ℕ → Item) (m : Same f) (b : Bounded f) (s t : List ℕ) (
       let l = items-fit f s end b n (x .next) i (x .run) .0 in
       rw (read-same f m s t at (x .next) (fewer (x .next) l w) (x .item)) (elements-same n (x .next) i (x .run))
 
-  entries-same : (n : ℕ) (prev : List ℕ) (at : ℕ) → at ≤ length s → entriesOf f n s prev at ≡ Len end → entriesOf f n t prev at ≡ Len end
-  unfolding entriesOf nextKeyOf andThen
-  entries-same zero prev at h e = e
-  entries-same (suc n) prev at h e =
-      let x = next-entry f s end n prev at e in
-      let i = read-fits f b s (x .mid) (x .next) (x .value) in
-      let l = entries-fit f s end b n (part s at (x .mid)) (x .next) (i .1) (x .run) .0 in
-      let k : Begins s t (x .mid) = fewer (x .mid) (omega (arith, i .0)) w in
-      let p = part-same at (x .mid) s t (read-part keyOf s at (x .mid) (x .key) .0) k in
-      let o = ap (keyBefore prev) p ∙ x .order in
-      let r = ap (λ (j : List ℕ). entriesOf f n t j (x .next)) p ∙ entries-same n (part s at (x .mid)) (x .next) (i .1) (x .run) in
-      rw (read-same keyOf key-same s t at (x .mid) k (x .key), o, read-same f m s t (x .mid) (x .next) (fewer (x .next) l w) (x .value)) r
+  entries-same : (n : ℕ) (prev : List ℕ) (at : ℕ) → entriesOf f n s prev at ≡ Len end → entriesOf f n t prev at ≡ Len end
+  unfolding entriesOf
+  entries-same n prev at e =
+      let r = entries-run f s end n prev at e in
+      let i : n + 0 ≡ n = omega arith in
+      rw i at (run-on f t n prev at (r .0) end (run-same f m s t end w n prev at (r .0) (r .1)) 0)
 
   nested-same : (k : Kind) (v l : ℕ) → l ≤ length s → nestedOf f k v l s ≡ Len end → (l ≤ end) × (nestedOf f k v l t ≡ Len end)
-  nested-same Unsigned v l h e = plain-same Unsigned v l end s t w e
-  nested-same Negative v l h e = plain-same Negative v l end s t w e
-  nested-same Bytes v l h e = plain-same Bytes v l end s t w e
-  nested-same Text v l h e = plain-same Text v l end s t w e
-  nested-same Array v l h e = (items-fit f s end b v l h e .0, elements-same v l h e)
-  nested-same Map v l h e = (entries-fit f s end b v [] l h e .0, entries-same v [] l h e)
-  nested-same Simple v l h e = plain-same Simple v l end s t w e
+  nested-same k v l h =
+      by-nesting (λ (k : Kind). nestedOf f k v l s ≡ Len end → (l ≤ end) × (nestedOf f k v l t ≡ Len end))
+      (λ k x e. rw (nested-plain f k v l t x) (plain-same k v l end s t w (sym (nested-plain f k v l s x) ∙ e)))
+      (λ e. (items-fit f s end b v l h e .0, elements-same v l h e))
+      (λ e. (entries-fit f s end b v [] l h e .0, entries-same v [] l e))
+      k
 
 pub item-same : (levels : ℕ) → Same (itemOf levels)
 unfolding itemOf

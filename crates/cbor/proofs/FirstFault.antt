@@ -20,10 +20,11 @@ use Rattle.cbor.specs.declared.head.Head.{Head}
 use Rattle.cbor.specs.declared.head.Head.the-variants.{Of, Bad}
 use Rattle.cbor.specs.declared.Item.{Item}
 use Rattle.cbor.specs.declared.Item.the-variants.{Len, Fault}
-use Rattle.cbor.proofs.Heads.{head-none}
-use Rattle.cbor.proofs.Items.{Within, Bounded, read-within, item-within, read-fits, key-none}
-use Rattle.cbor.proofs.Inside.{fault-len, fault-fault, next-key, read-part, read-fault}
-use Rattle.cbor.proofs.Alone.{Begins, begins-take, fewer, further, Same, head-same, read-same, next-same, part-same, item-same}
+use Rattle.cbor.proofs.Heads.{shape, head-none}
+use Rattle.cbor.proofs.Items.{nested-plain, by-nesting, Within, Bounded, read-within, item-within, key-none}
+use Rattle.cbor.proofs.Inside.{fault-len, fault-fault, items-fit, next-later, read-fault}
+use Rattle.cbor.proofs.Alone.{Begins, begins-take, fewer, further, Same, head-same, next-same, run-same, elements-same, item-same}
+use Rattle.cbor.proofs.Broken.{elements-on, elements-broken, run-later, run-on, EntryBreaks, BrokenEntry, entries-broken}
 use Rattle.cbor.proofs.Readers.{item-none}
 
 -- t is the first p bytes of s.
@@ -98,54 +99,48 @@ module _ (f : List ℕ → Item) (c : Cuts f) (m : Same f) (b : Bounded f) (s t 
       let i : at + (p - at) ≡ p = omega (arith, r .0) in
       rw (c (drop at s) (drop at t) (p - at) (record { size = omega (arith, length-drop at t, w .size); begins = further s t p at (r .0) (w .begins) }) (r .1)) (ap Fault i)
 
-  -- The fault is in this item, or after it.
-  elements-cut : (n at : ℕ) → elementsOf f n s at ≡ Fault p → (at ≤ p) × (elementsOf f n t at ≡ Fault p)
+  -- The items before the one at fault are the same, and it breaks at the same place.
+  elements-cut : (n at : ℕ) → at ≤ length s → elementsOf f n s at ≡ Fault p → (at ≤ p) × (elementsOf f n t at ≡ Fault p)
   unfolding elementsOf andThen
-  elements-cut zero at e = fault-len (sym e)
-  elements-cut (suc n) at e = go (readAt f s at) refl e (elements-cut n)
-    where
-      go : (x : Item) → readAt f s at ≡ x → andThen x (λ next. elementsOf f n s next) ≡ Fault p → ((next : ℕ) → elementsOf f n s next ≡ Fault p → (next ≤ p) × (elementsOf f n t next ≡ Fault p)) → (at ≤ p) × (elementsOf f (suc n) t at ≡ Fault p)
-      go (Len next) h i r =
-          let o = r next i in
-          (omega (arith, read-fits f b s at next h .0, o .0), rw (read-same f m s t at next (fewer next (o .0) (w .begins)) h) (o .1))
-      go (Fault q) h i r =
-          let j = h ∙ i in
-          (read-fault f s at p j .0, rw (read-cut at j))
+  elements-cut n at h e =
+      let x = elements-broken f s p n at e in
+      let l = read-fault f s (x .place) p (x .item) .0 in
+      let r = elements-same f m b s t (x .place) (fewer (x .place) l (w .begins)) (x .before) at h (x .whole) in (
+        omega (arith, items-fit f s (x .place) b (x .before) at h (x .whole) .0),
+        rw (x .counted, elements-on f t (x .before) (suc (x .left)) at (x .place) r, read-cut (x .place) (x .item)),
+      )
 
-  -- The fault is at this key, in its value, or after that.
+  -- So are the entries. The one at fault breaks at its key, which is missing then, or in its value.
   entries-cut : (n : ℕ) (prev : List ℕ) (at : ℕ) → entriesOf f n s prev at ≡ Fault p → (at ≤ p) × (entriesOf f n t prev at ≡ Fault p)
   unfolding entriesOf andThen
-  entries-cut zero prev at e = fault-len (sym e)
-  entries-cut (suc n) prev at e = go (nextKeyOf s prev at) refl e (entries-cut n)
+  entries-cut n prev at e = let x = entries-broken f s p n prev at e in go x (x .broken)
     where
-      by-value : (mid : ℕ) → nextKeyOf s prev at ≡ Len mid → at ≤ mid → (x : Item) → readAt f s mid ≡ x → andThen x (λ next. entriesOf f n s (part s at mid) next) ≡ Fault p → ((key : List ℕ) (next : ℕ) → entriesOf f n s key next ≡ Fault p → (next ≤ p) × (entriesOf f n t key next ≡ Fault p)) → (at ≤ p) × (entriesOf f (suc n) t prev at ≡ Fault p)
-      by-value mid k a (Len next) h i r =
-          let o = r (part s at mid) next i in
-          let v = read-fits f b s mid next h .0 in
-          let g : Begins s t mid = fewer mid (omega (arith, o .0)) (w .begins) in
-          let z = ap (λ (j : List ℕ). entriesOf f n t j next) (part-same at mid s t a g) ∙ o .1 in
-          (omega (arith, o .0), rw (next-same s t prev at mid g k, read-same f m s t mid next (fewer next (o .0) (w .begins)) h) z)
-      by-value mid k a (Fault q) h i r =
-          let u = read-fault f s mid p (h ∙ i) .0 in
-          (omega arith, rw (next-same s t prev at mid (fewer mid u (w .begins)) k, read-cut mid (h ∙ i)))
+      rest : (x : BrokenEntry f s n prev at p) → x .place ≤ p → entriesOf f (suc (x .left)) t (x .key) (x .place) ≡ Fault p → (at ≤ p) × (entriesOf f n t prev at ≡ Fault p)
+      rest x l g =
+          let r = run-same f m s t (x .place) (fewer (x .place) l (w .begins)) (x .before) prev at (x .key) (x .run) in (
+            omega (arith, run-later f s (x .before) prev at (x .key) (x .place) (x .run)),
+            rw (x .counted) (run-on f t (x .before) prev at (x .key) (x .place) r (suc (x .left)) ∙ g),
+          )
 
-      go : (x : Item) → nextKeyOf s prev at ≡ x → andThen x (λ mid. andThen (readAt f s mid) (λ next. entriesOf f n s (part s at mid) next)) ≡ Fault p → ((key : List ℕ) (next : ℕ) → entriesOf f n s key next ≡ Fault p → (next ≤ p) × (entriesOf f n t key next ≡ Fault p)) → (at ≤ p) × (entriesOf f (suc n) t prev at ≡ Fault p)
-      go (Len mid) k i r = by-value mid k (read-part keyOf s at mid (next-key s prev at mid k .0) .0) (readAt f s mid) refl i r
-      go (Fault q) k i r =
-          let j = next-fault s prev at p (k ∙ i) in
-          (omega arith, rw (next-none t prev at (w .size ∙ j)) (ap Fault (sym j)))
+      go : (x : BrokenEntry f s n prev at p) → EntryBreaks f s (x .key) (x .place) p → (at ≤ p) × (entriesOf f n t prev at ≡ Fault p)
+      go x (inl k) =
+          let z = next-fault s (x .key) (x .place) p k in
+          rest x (omega arith) (rw (next-none t (x .key) (x .place) (w .size ∙ z)) (ap Fault (sym z)))
+      go x (inr k) =
+          let l = read-fault f s (k .0) p (k .2) .0 in
+          let a = next-later s (x .key) (x .place) (k .0) (k .1) in
+          rest x (omega arith) (rw (next-same s t (x .key) (x .place) (k .0) (fewer (k .0) l (w .begins)) (k .1), read-cut (k .0) (k .2)))
 
-  nested-cut : (k : Kind) (v l : ℕ) → nestedOf f k v l s ≡ Fault p → (p ≡ 0) ⊎ ((l ≤ p) × (nestedOf f k v l t ≡ Fault p))
-  nested-cut Unsigned v l e = inl (plain-fault Unsigned v l s p e)
-  nested-cut Negative v l e = inl (plain-fault Negative v l s p e)
-  nested-cut Bytes v l e = inl (plain-fault Bytes v l s p e)
-  nested-cut Text v l e = inl (plain-fault Text v l s p e)
-  nested-cut Array v l e = inr (elements-cut v l e)
-  nested-cut Map v l e = inr (entries-cut v [] l e)
-  nested-cut Simple v l e = inl (plain-fault Simple v l s p e)
+  nested-cut : (k : Kind) (v l : ℕ) → l ≤ length s → nestedOf f k v l s ≡ Fault p → (p ≡ 0) ⊎ ((l ≤ p) × (nestedOf f k v l t ≡ Fault p))
+  nested-cut k v l h =
+      by-nesting (λ (k : Kind). nestedOf f k v l s ≡ Fault p → (p ≡ 0) ⊎ ((l ≤ p) × (nestedOf f k v l t ≡ Fault p)))
+      (λ k x e. inl (plain-fault k v l s p (sym (nested-plain f k v l s x) ∙ e)))
+      (λ e. inr (elements-cut v l h e))
+      (λ e. inr (entries-cut v [] l e))
+      k
 
 -- The fault is at the item's first byte, or after its head.
-by-head-cut : (g : Kind → ℕ → ℕ → List ℕ → Item) (s t : List ℕ) (p : ℕ) → Cut s t p → ((k : Kind) (v l : ℕ) → g k v l s ≡ Fault p → (p ≡ 0) ⊎ ((l ≤ p) × (g k v l t ≡ Fault p))) → byHead g (headOf s) s ≡ Fault p → byHead g (headOf t) t ≡ Fault p
+by-head-cut : (g : Kind → ℕ → ℕ → List ℕ → Item) (s t : List ℕ) (p : ℕ) → Cut s t p → ((k : Kind) (v l : ℕ) → l ≤ length s → g k v l s ≡ Fault p → (p ≡ 0) ⊎ ((l ≤ p) × (g k v l t ≡ Fault p))) → byHead g (headOf s) s ≡ Fault p → byHead g (headOf t) t ≡ Fault p
 unfolding byHead
 by-head-cut g s t p w f e = go (headOf s) refl e
   where
@@ -153,12 +148,12 @@ by-head-cut g s t p w f e = go (headOf s) refl e
     none z = rw (head-none t (w .size ∙ z)) (ap Fault (sym z))
 
     go : (x : Head) → headOf s ≡ x → byHead g x s ≡ Fault p → byHead g (headOf t) t ≡ Fault p
-    go (Of k v l) h i = ⊎-elim none (λ r. rw (head-same s t (fewer l (r .0) (w .begins)) h) (r .1)) (f k v l i)
+    go (Of k v l) h i = ⊎-elim none (λ r. rw (head-same s t (fewer l (r .0) (w .begins)) h) (r .1)) (f k v l (shape s h .fits) i)
     go Bad h i = none (sym (fault-fault i))
 
 item-cut : (levels : ℕ) → Cuts (itemOf levels)
 unfolding itemOf
-item-cut zero s t p w e = by-head-cut plainOf s t p w (λ k v l i. inl (plain-fault k v l s p i)) e
+item-cut zero s t p w e = by-head-cut plainOf s t p w (λ k v l h i. inl (plain-fault k v l s p i)) e
 item-cut (suc levels) s t p w e = by-head-cut (nestedOf (itemOf levels)) s t p w (nested-cut (itemOf levels) (item-cut levels) (item-same levels) (item-within levels) s t p w) e
 
 cut-take : (s : List ℕ) (p : ℕ) → p ≤ length s → Cut s (take p s) p

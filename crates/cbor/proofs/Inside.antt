@@ -106,10 +106,14 @@ pub next-key : (s prev : List ℕ) (at mid : ℕ) → nextKeyOf s prev at ≡ Le
 unfolding nextKeyOf
 next-key s prev at mid = passed (readAt keyOf s at) (λ end. keyBefore prev (part s at end)) _ mid
 
+pub next-later : (s prev : List ℕ) (at mid : ℕ) → nextKeyOf s prev at ≡ Len mid → at ≤ mid
+next-later s prev at mid e = read-part keyOf s at mid (next-key s prev at mid e .0) .0
+
 -- The entries of a map, one by one.
 pub record NextEntry (f : List ℕ → Item) (s : List ℕ) (end n : ℕ) (prev : List ℕ) (at : ℕ) : Type 0 where
   pub mid : ℕ
   pub next : ℕ
+  pub found : nextKeyOf s prev at ≡ Len mid
   pub key : readAt keyOf s at ≡ Len mid
   pub order : keyBefore prev (part s at mid) ≡ true
   pub value : readAt f s mid ≡ Len next
@@ -121,7 +125,7 @@ module _ (f : List ℕ → Item) (s : List ℕ) (end : ℕ) where
   next-entry n prev at e = go (nextKeyOf s prev at) refl e
     where
       by-value : (mid : ℕ) → nextKeyOf s prev at ≡ Len mid → (x : Item) → readAt f s mid ≡ x → andThen x (λ next. entriesOf f n s (part s at mid) next) ≡ Len end → NextEntry f s end n prev at
-      by-value mid k (Len next) g h = let w = next-key s prev at mid k in record { mid = mid; next = next; key = w .0; order = w .1; value = g; run = h }
+      by-value mid k (Len next) g h = let w = next-key s prev at mid k in record { mid = mid; next = next; found = k; key = w .0; order = w .1; value = g; run = h }
       by-value mid k (Fault p) g h = fault-len h
 
       go : (x : Item) → nextKeyOf s prev at ≡ x → andThen x (λ m. andThen (readAt f s m) (λ next. entriesOf f n s (part s at m) next)) ≡ Len end → NextEntry f s end n prev at

@@ -74,6 +74,35 @@ read-fits f t s at end e = go (f (drop at s)) (t (drop at s)) e
     go (Len k) w g = let h : at + k ≡ end = cc in (omega arith, omega (arith, length-drop at s))
     go (Fault p) w g = let z : _≡_ {A = ℕ} 0 1 = cc in absurd (omega arith)
 
+-- The kinds that hold no other item: for these the levels do not count.
+abbrev pub Plain : Kind → Type 0
+Plain Unsigned = Unit {0}
+Plain Negative = Unit {0}
+Plain Bytes = Unit {0}
+Plain Text = Unit {0}
+Plain Array = ⊥
+Plain Map = ⊥
+Plain Simple = Unit {0}
+
+pub nested-plain : (f : List ℕ → Item) (k : Kind) (v l : ℕ) (s : List ℕ) → Plain k → nestedOf f k v l s ≡ plainOf k v l s
+nested-plain f Unsigned v l s p = refl
+nested-plain f Negative v l s p = refl
+nested-plain f Bytes v l s p = refl
+nested-plain f Text v l s p = refl
+nested-plain f Array v l s p = absurd p
+nested-plain f Map v l s p = absurd p
+nested-plain f Simple v l s p = refl
+
+-- What holds of these, of an array and of a map holds of every kind.
+pub by-nesting : (P : Kind → Type 0) → ((k : Kind) → Plain k → P k) → P Array → P Map → (k : Kind) → P k
+by-nesting P f a m Unsigned = f Unsigned tt
+by-nesting P f a m Negative = f Negative tt
+by-nesting P f a m Bytes = f Bytes tt
+by-nesting P f a m Text = f Text tt
+by-nesting P f a m Array = a
+by-nesting P f a m Map = m
+by-nesting P f a m Simple = f Simple tt
+
 pub string-within : (v l : ℕ) (s : List ℕ) → l ≤ length s → Within l (length s) (stringOf v l s)
 unfolding stringOf
 string-within v l s h = go (leb v (length s - l)) refl
@@ -131,13 +160,12 @@ module _ (f : List ℕ → Item) (t : Bounded f) where
       (λ next b j. entries-within n s (part s at value) next j))
 
   nested-within : (k : Kind) (v l : ℕ) (s : List ℕ) → 1 ≤ l → l ≤ length s → Within 1 (length s) (nestedOf f k v l s)
-  nested-within Unsigned v l s g h = plain-within Unsigned v l s g h
-  nested-within Negative v l s g h = plain-within Negative v l s g h
-  nested-within Bytes v l s g h = plain-within Bytes v l s g h
-  nested-within Text v l s g h = plain-within Text v l s g h
-  nested-within Array v l s g h = earlier 1 l (length s) (elementsOf f v s l) g (elements-within v s l h)
-  nested-within Map v l s g h = earlier 1 l (length s) (entriesOf f v s [] l) g (entries-within v s [] l h)
-  nested-within Simple v l s g h = plain-within Simple v l s g h
+  nested-within k v l s g h =
+      by-nesting (λ (k : Kind). Within 1 (length s) (nestedOf f k v l s))
+      (λ k x. rw (nested-plain f k v l s x) (plain-within k v l s g h))
+      (earlier 1 l (length s) (elementsOf f v s l) g (elements-within v s l h))
+      (earlier 1 l (length s) (entriesOf f v s [] l) g (entries-within v s [] l h))
+      k
 
 pub item-within : (levels : ℕ) (s : List ℕ) → Within 1 (length s) (itemOf levels s)
 unfolding itemOf

@@ -26,29 +26,10 @@ use Rattle.cbor.specs.declared.Item.{Item}
 use Rattle.cbor.specs.declared.Item.the-variants.{Len, Fault}
 use Rattle.cbor.proofs.Firsts.{argument}
 use Rattle.cbor.proofs.Heads.{shape, head-none, head-some}
-use Rattle.cbor.proofs.Items.{Bounded, string-within, read-within, key-within, next-within}
+use Rattle.cbor.proofs.Items.{Plain, nested-plain, Bounded, string-within, read-within, key-within, next-within}
 use Rattle.cbor.proofs.Inside.{next-key}
 use Rattle.cbor.proofs.Alone.{key-part}
 use Rattle.cbor.proofs.Numbers.{is-length, goes-on, decides, holds, fails, ends}
-
--- The kinds that hold no other item: for these the levels do not count.
-abbrev pub Plain : Kind → Type 0
-Plain Unsigned = Unit {0}
-Plain Negative = Unit {0}
-Plain Bytes = Unit {0}
-Plain Text = Unit {0}
-Plain Array = ⊥
-Plain Map = ⊥
-Plain Simple = Unit {0}
-
-nested-plain : (f : List ℕ → Item) (k : Kind) (v l : ℕ) (s : List ℕ) → Plain k → nestedOf f k v l s ≡ plainOf k v l s
-nested-plain f Unsigned v l s p = refl
-nested-plain f Negative v l s p = refl
-nested-plain f Bytes v l s p = refl
-nested-plain f Text v l s p = refl
-nested-plain f Array v l s p = absurd p
-nested-plain f Map v l s p = absurd p
-nested-plain f Simple v l s p = refl
 
 -- The head h was read at the start of s.
 pub starts-within : (s : List ℕ) {h : Head} {k : Kind} {v l : ℕ} → h ≡ headOf s → h ≡ Of k v l → l ≤ length s

@@ -85,7 +85,7 @@ pub nothing-before : NothingBefore
 unfolding parametersOf parametersIn
 nothing-before msg p h =
     let t = told msg 0x12 p h in
-    let b = t .broken refl .0 in
+    let b = t .broken refl in
     let w = map-before msg p (b .fault) in
     let n = length-take-le p msg (t .inside .0) in
     let c = by-parameters (b .command) (take p msg) (omega (arith, w .0)) (omega (arith, t .inside .1)) (getD-take p msg 0 0 (w .0) ∙ b .first) in

@@ -32,14 +32,13 @@ use Rattle.command.specs.Parameters.{Row, rowsOf, hashKey, hashValue, co
 use Rattle.command.specs.Check.{noneOurs, onRequired, shownOf, unsupportedOf, goodOf, settledOf, nothingAfter, oneMap, parametersIn, parametersOf, byteOf, longest, commandOf, checkOf}
 use Rattle.command.specs.Theorems.{PlaceInside}
 
--- Both ways of a choice.
-either : {A : Type 0} (P : A → Type 0) (t : Bool) (x y : A) → P x → P y → P (if t then x else y)
-either P true x y p q = p
-either P false x y p q = q
-
+-- Both ways of a choice; what is chosen may ask that the test holds.
 either-by : {A : Type 0} (P : A → Type 0) (t : Bool) (x y : A) → (t ≡ true → P x) → P y → P (if t then x else y)
 either-by P true x y p q = p refl
 either-by P false x y p q = q
+
+either : {A : Type 0} (P : A → Type 0) (t : Bool) (x y : A) → P x → P y → P (if t then x else y)
+either P t x y p q = either-by P t x y (λ e. p) q
 
 -- Where a key's value begins, if it is there.
 on-found : {A : Type 0} (P : A → Type 0) (f : Found) (x : A) (g : ℕ → A) → P x → ((p : ℕ) → f ≡ At p → P (g p)) → P (onFound f x g)
@@ -198,7 +197,7 @@ module _ (s : List ℕ) where
 -- What a refusal tells.
 pub record Told (msg : List ℕ) (e p : ℕ) : Type 0 where
   pub inside : (p ≤ length msg) × (p ≤ longest)
-  pub broken : e ≡ invalidCbor → Broken msg p × (length msg ≤ longest)
+  pub broken : e ≡ invalidCbor → Broken msg p
 
 pub told : (msg : List ℕ) (e p : ℕ) → checkOf msg ≡ Refused e p → Told msg e p
 unfolding checkOf Refusing
@@ -213,7 +212,7 @@ told msg e p = go (eqb (length msg) 0) refl (ltb longest (length msg)) refl
     go false i false j h =
         let l = ltb-false longest (length msg) j in
         let w = subst (Refusing msg) h (command-in msg (pos-of-ne-zero (eqb-false (length msg) 0 i))) in
-        record { inside = (w .0, omega (arith, w .0)); broken = λ z. (w .1 z, l) }
+        record { inside = (w .0, omega (arith, w .0)); broken = w .1 }
 
 pub place-inside : PlaceInside
 place-inside msg e p h = told msg e p h .inside

@@ -23,7 +23,7 @@ ghost use Rattle.cbor.specs.Item.{readAt, itemOf};
 ghost use Rattle.cbor.specs.declared.Item.the-variants.{Len};
 ghost use Rattle.command.specs.Map.{majorAt, bytes, mapAt, valueOf};
 ghost use Rattle.command.specs.Parameters.{rowsOf, hashKey, hashValue, contentOf, throughOf};
-ghost use Rattle.command.specs.Check.{noneOurs, shownOf, unsupportedOf, settledOf, oneMap, parametersOf};
+ghost use Rattle.command.specs.Check.{noneOurs, keyAbsent, shownOf, unsupportedOf, settledOf, oneMap, parametersOf};
 ghost use Rattle.command.specs.Pass.{OneMap, kindIn, knownOf, requiredEnd, soFar, finishedOf};
 
 // A command with parameters.
@@ -148,6 +148,13 @@ fn none_ours(c: Command, ours: bool) -> bool
     }
 }
 
+// A required key that is absent is told at the map: there is no byte of its own.
+fn key_absent() -> Checked
+    ensures { λ r. ⌜ r ≡ keyAbsent ⌝ }
+{
+    Checked::Refused(MISSING_PARAMETER, 1)
+}
+
 // The key of the client data hash.
 fn hash_key(c: Command) -> u8
     ensures { λ r. ⌜ r ≡ hashKey c ⌝ }
@@ -175,7 +182,7 @@ fn shown(msg: &[u8], c: Command) -> Checked
     let hash = value_of(msg, hash_key(c));
     match hash {
         Found::At(p) => Checked::Good(p + 2),
-        Found::Absent => Checked::Refused(MISSING_PARAMETER, 1),
+        Found::Absent => key_absent(),
     }
 }
 
@@ -187,7 +194,7 @@ fn unsupported(msg: &[u8]) -> Checked
     let array = value_of(msg, ALGORITHMS);
     match array {
         Found::At(p) => Checked::Refused(UNSUPPORTED_ALGORITHM, p),
-        Found::Absent => Checked::Refused(MISSING_PARAMETER, 1),
+        Found::Absent => key_absent(),
     }
 }
 
@@ -197,7 +204,7 @@ fn finished(msg: &[u8], c: Command, wanted: u8, ours: bool) -> Checked
     ensures { λ r. ⌜ r ≡ finishedOf c (mapAt 3 (now (msg .entry)) 1) wanted ours ⌝ }
 {
     if wanted < required_end(c) {
-        return Checked::Refused(MISSING_PARAMETER, 1);
+        return key_absent();
     }
     if none_ours(c, ours) {
         return unsupported(msg);

@@ -8,8 +8,8 @@ use Rattle.command.proofs.parameters.finished.Tie as tie
 
 returns : tie.Need-returns
 unfolding finishedOf
-returns c = let a = c .before .before .before .args in
-    rw (lt-ltb (a .wanted) (requiredEnd (a .c)) (omega (arith, c .if1 .taken, c .before .required-end .ensures)))
+returns c = let a = c .before .before .before .before .args in
+    rw (lt-ltb (a .wanted) (requiredEnd (a .c)) (omega (arith, c .before .if1 .taken, c .before .before .required-end .ensures))) (c .key-absent .ensures)
 
 returns-2 : tie.Need-returns-2
 unfolding finishedOf
@@ -25,6 +25,7 @@ pub finished-spec : {M : Type 1} → statement M
 finished-spec =
     tie.close
     (tie.spec
+    (λ c κs. search needs)
     (λ c κs. search needs)
     returns
     (λ c κs. search needs)

@@ -27,7 +27,7 @@ returns c = rw (← looked-up (c .before .before .before), c .before .hash .give
 
 returns-2 : tie.Need-returns-2
 unfolding shownOf onRequired onFound
-returns-2 c = rw (← looked-up (c .before .before), c .enum-told .given .1)
+returns-2 c = rw (← looked-up (c .before .before .before), c .before .enum-told .given .1) (c .key-absent .ensures)
 
 pub shown-spec : {M : Type 1} → statement M
 shown-spec =
@@ -38,5 +38,6 @@ shown-spec =
     (λ c. search needs)
     add-t7
     (λ c. search needs)
+    (λ c κs. search needs)
     returns
     returns-2)

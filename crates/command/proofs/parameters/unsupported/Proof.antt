@@ -11,7 +11,9 @@ returns c = rw (← c .before .before .before .value-of .ensures, c .before .arr
 
 returns-2 : tie.Need-returns-2
 unfolding unsupportedOf onRequired onFound
-returns-2 c = rw (← c .before .before .value-of .ensures, c .enum-told .given .1)
+returns-2 c = rw (← c .before .before .before .value-of .ensures, c .before .enum-told .given .1) (c .key-absent .ensures)
 
 pub unsupported-spec : {M : Type 1} → statement M
-unsupported-spec = tie.close (tie.spec (λ c κs. search needs) (λ c. search needs) (λ c. search needs) returns returns-2)
+unsupported-spec =
+    tie.close
+    (tie.spec (λ c κs. search needs) (λ c. search needs) (λ c. search needs) (λ c κs. search needs) returns returns-2)
