@@ -228,8 +228,10 @@ mod tests {
     #[test]
     fn shows_only_what_is_lent() {
         assert_eq!(
-            answers("reply 2\nmessage 0\nstate 65536 4294967295 gathering 0 127 65535 9 8\nshow\n"),
-            "state 65536 4294967295 gathering 0 127 65535 9 8\nreply 0000\nmessage -\n"
+            answers(
+                "reply 2\nmessage 0\nstate 4294967295 4294967295 gathering 0 127 65535 9 8\nshow\n"
+            ),
+            "state 4294967295 4294967295 gathering 0 127 65535 9 8\nreply 0000\nmessage -\n"
         );
     }
 

@@ -7,8 +7,8 @@ use crate::packet::{
     LONGEST, PACKET, PING,
 };
 
-/// Channels are given as 1, 2, 3 and on, at most this many.
-pub const MOST_CHANNELS: u32 = 65_535;
+/// Channels are given as 1, 2, 3 and on, at most this many: the next number is broadcast.
+pub const MOST_CHANNELS: u32 = 4_294_967_294;
 /// Gathering has this many milliseconds from its opening.
 pub const GATHERING_TIME: u32 = 3_000;
 
@@ -489,6 +489,31 @@ mod tests {
     }
 
     #[test]
+    fn the_last_channel_comes_before_broadcast() {
+        let nonce = [1, 2, 3, 4, 5, 6, 7, 8];
+        for (given, next) in [
+            (65_535, [0x00, 0x01, 0x00, 0x00]),
+            (4_294_967_293, [0xFF, 0xFF, 0xFF, 0xFE]),
+        ] {
+            let mut host = Host::new(given);
+            assert_eq!(host.open(BROADCAST.0, INIT, &nonce), Answer::Reply);
+            assert_eq!(host.reply[4], 0x86);
+            assert_eq!(host.reply[15..19], next);
+            assert_eq!(host.key.channels, given + 1);
+        }
+        let mut host = Host::new(4_294_967_294);
+        let before = host.key;
+        assert_eq!(host.open(BROADCAST.0, INIT, &nonce), Answer::Reply);
+        let expected = padded(&[0xFF, 0xFF, 0xFF, 0xFF, 0xBF, 0x00, 0x01, 0x7F]);
+        assert_eq!(host.reply, expected);
+        assert_eq!(host.key, before);
+        assert_eq!(host.open(0xFFFF_FFFE, PING, &[0x61]), Answer::Silent);
+        assert_eq!(host.fetch(), Ok(Answer::Reply));
+        let expected = padded(&[0xFF, 0xFF, 0xFF, 0xFE, 0x81, 0x00, 0x01, 0x61]);
+        assert_eq!(host.reply, expected);
+    }
+
+    #[test]
     fn another_channel_is_busy_while_one_gathers() {
         let mut host = Host::new(2);
         assert_eq!(host.open(1, PING, &[0; 58]), Answer::Silent);
@@ -651,5 +676,29 @@ mod tests {
         ] {
             assert!(!is_in_order(transaction), "{transaction:?}");
         }
+    }
+
+    #[test]
+    fn counts_and_holders_out_of_order() {
+        let is_in_order = |channels, holder| {
+            let key = Key {
+                channels,
+                ticket: Ticket(0),
+                transaction: Transaction::Waiting {
+                    message: Message {
+                        holder: Channel(holder),
+                        command: CBOR,
+                        length: 1,
+                    },
+                },
+            };
+            key.is_in_order()
+        };
+        assert!(is_in_order(65_536, 65_536));
+        assert!(!is_in_order(65_535, 65_536));
+        assert!(is_in_order(4_294_967_294, 4_294_967_294));
+        assert!(!is_in_order(4_294_967_293, 4_294_967_294));
+        assert!(!is_in_order(4_294_967_294, 4_294_967_295));
+        assert!(!is_in_order(4_294_967_295, 1));
     }
 }

@@ -7,14 +7,16 @@ use model::trial::writer::{events_of, write_script};
 const SCRIPTS: u64 = 80;
 
 /// What comes up in every phase: broadcast, unknown channels, calls that are turned away.
-const IN_EVERY_PHASE: [&str; 23] = [
+const IN_EVERY_PHASE: [&str; 25] = [
     "broadcast PING: error 0b",
     "broadcast CBOR: error 0b",
     "broadcast CANCEL: error 0b",
     "broadcast another command: error 0b",
     "broadcast INIT: error 03",
     "broadcast INIT: error 7f",
-    "broadcast INIT: INIT reply",
+    "broadcast INIT: channel below 65536",
+    "broadcast INIT: channel beyond 65535",
+    "broadcast INIT: the last channel",
     "broadcast continuation: ok",
     "unknown PING: error 0b",
     "unknown INIT: error 0b",
@@ -42,7 +44,7 @@ const WHILE_HELD: [&str; 4] = [
 ];
 
 /// The rest of the tables, and the checking and reading of commands and items.
-const ONCE: [&str; 77] = [
+const ONCE: [&str; 81] = [
     "idle given INIT: error 03",
     "idle given INIT: INIT reply",
     "idle given another command: error 01",
@@ -93,6 +95,10 @@ const ONCE: [&str; 77] = [
     "out of order time: refused 7",
     "out of order fetch: refused 7",
     "out of order deliver: refused 7",
+    "overfull packet of another size: refused 7",
+    "overfull time: refused 7",
+    "overfull fetch: refused 7",
+    "overfull deliver: refused 7",
     "check: status 01 at 0",
     "check: status 03 at 0",
     "check: status 03 at 1",

@@ -6,24 +6,29 @@ mod common;
 use common::{agree, hex};
 use model::packet::{Channel, CBOR, LONGEST, PACKET, PING};
 
-/// States in order, of each phase, in which channel 2 holds the key if anybody does.
-const PHASES: [&str; 8] = [
+/// States in order, of each phase; who holds the key is channel 2, or the last that can be given.
+const PHASES: [&str; 13] = [
     "state 3 9 idle",
     "state 65535 9 idle",
+    "state 4294967293 9 idle",
+    "state 4294967294 9 idle",
     "state 3 9 gathering 2 1 7609 1 3000",
     "state 3 9 gathering 2 16 7609 128 1",
     "state 3 4294967295 gathering 2 16 58 1 1",
     "state 3 9 waiting 2 16 7609",
     "state 3 9 answering 2 1 58 1",
     "state 3 9 answering 2 16 7609 0",
+    "state 4294967294 9 gathering 4294967294 16 58 1 3000",
+    "state 4294967294 9 waiting 4294967294 16 7609",
+    "state 4294967294 9 answering 4294967294 1 58 1",
 ];
 
-/// Nobody's channel, a holder's, another's, one not given, broadcast.
-const CHANNELS: [u32; 5] = [0, 2, 3, 4, 0xFFFF_FFFF];
+/// Nobody's channel, a holder's, another's, one not given yet, the last, broadcast.
+const CHANNELS: [u32; 6] = [0, 2, 3, 4, 0xFFFF_FFFE, 0xFFFF_FFFF];
 
 /// A packet whose payload tells where it comes from.
 fn packet(channel: Channel, byte_4: u8, length: u16) -> String {
-    let mut packet = [0x40 + channel.0 as u8; PACKET];
+    let mut packet = [(channel.0 as u8).wrapping_add(0x40); PACKET];
     packet[..4].copy_from_slice(&channel.0.to_be_bytes());
     packet[4] = byte_4;
     if byte_4 >= 0x80 {
@@ -80,9 +85,23 @@ fn every_bound_of_a_state() {
         lines.push(state);
         lines.push("time 0".to_string());
     };
-    for channels in [0, 1, 2, 65_534, 65_535, 65_536, u32::MAX] {
+    let numbers = [
+        0,
+        1,
+        2,
+        3,
+        65_534,
+        65_535,
+        65_536,
+        65_537,
+        1 << 31,
+        4_294_967_293,
+        4_294_967_294,
+        u32::MAX,
+    ];
+    for channels in numbers {
         state(format!("state {channels} 0 idle"));
-        for holder in [0, 1, 2, 3, 65_535, 65_536, u32::MAX] {
+        for holder in numbers {
             state(format!("state {channels} 0 waiting {holder} 16 1"));
             state(format!("state {channels} 0 answering {holder} 16 1 0"));
             state(format!("state {channels} 0 gathering {holder} 16 58 1 1"));
@@ -120,7 +139,7 @@ fn every_refusal_beside_every_other() {
         }
     }
     let out_of_order = [
-        "state 65536 9 idle",
+        "state 4294967295 9 idle",
         "state 1 9 waiting 2 16 7609",
         "state 3 9 waiting 2 1 7609",
         "state 3 9 answering 2 1 58 2",

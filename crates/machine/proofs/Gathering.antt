@@ -26,7 +26,7 @@ use Rattle.state.specs.Table.{_⇒_else_}
 use Rattle.state.specs.Order.{gatheringTime, inOrder}
 use Rattle.state.specs.Answers.{now, within}
 use Rattle.state.proofs.Ordered.{count-in-order, Message}
-use Rattle.state.proofs.Making.{starts-not, known-below, gathering-made, state-made}
+use Rattle.state.proofs.Making.{starts-not, gathering-made, state-made}
 use Rattle.command.specs.declared.Checked.{Checked}
 use Rattle.command.specs.declared.Checked.the-variants as checked
 use Rattle.command.specs.Check.{checkOf}
@@ -35,7 +35,8 @@ use Rattle.machine.specs.Machine.{packet, Turn, quiet, at, beside, judge
 use Rattle.machine.specs.Run.{logged, run, sends, quietUntil, endsIn}
 use Rattle.machine.specs.Theorems.{Sending, Gathered, CommandGathered}
 use Rattle.table.proofs.Verdicts.{good-length}
-use Rattle.machine.proofs.Strangers.{not-broadcast}
+use Rattle.machine.proofs.Steps.{step-rows}
+use Rattle.machine.proofs.Replies.{below-broadcast, not-broadcast}
 
 -- ---- what a call does that is lent enough
 
@@ -45,8 +46,8 @@ lent-enough p space size a b c = rw (eq-eqb (length p) packetSize a, le-ltb spac
 
 taken-step : (s : State) (m p : List ℕ) (space : ℕ) → inOrder s ≡ true → length p ≡ packetSize → packetSize ≤ space → longest ≤ length m
     → step s m (packet p space) ≡ packetRows s m p
-unfolding step rows _⇒_else_
-taken-step s m p space o a b c = rw (o, lent-enough p space (length m) a b c)
+unfolding rows
+taken-step s m p space o a b c = step-rows s m (packet p space) o (lent-enough p space (length m) a b c)
 
 -- ---- a payload that is taken: what the work was doing and what stands behind the payload do not matter
 
@@ -82,10 +83,7 @@ module _ (s : State) (c : Channel) (command n : ℕ) (src m : List ℕ) (p : ℕ
   gathering i = within s (Gathering c command n i gatheringTime)
 
   fits : c .0 < 2 ^ 32
-  fits =
-      let i = count-in-order s (q .order) in
-      let j = known-below (s .given) c (q .channel) in
-      omega arith
+  fits = omega (arith, below-broadcast s c (q .order) (q .channel))
 
   size : n ≤ longest
   size = good-length command n (q .size)

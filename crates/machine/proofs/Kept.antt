@@ -152,7 +152,7 @@ module _ (s : State) (m : List ℕ) (o : inOrder s ≡ true) where
 rows-kept : (s : State) (m : List ℕ) (e : Event) → inOrder s ≡ true → lent e (length m) ≡ 0 → Kept m (rows s m e)
 unfolding rows packetRows
 rows-kept s m (packet p space) o l =
-    let long = packet-lent p space (length m) l .1 in
+    let long = packet-lent p space (length m) l .2 in
     row (Kept m) _ _ _ (λ _. opening-kept s m o long p) (λ _. continuing-kept s m o long (s .work .phase) p refl)
 rows-kept s m (time ms space) o l = time-kept s m o (s .work .phase) ms refl
 rows-kept s m (deliver ticket bytes) o l = deliver-kept s m o (deliver-lent ticket bytes (length m) l) (s .work .phase) ticket bytes refl

@@ -1,5 +1,6 @@
 pub mod Outcome
 pub mod Steps
+pub mod Replies
 pub mod Shapes
 pub mod Kept
 pub mod Refusals

@@ -15,7 +15,8 @@ use Rattle.machine.specs.Machine.{Event, Turn, refuses, fresh}
 use Rattle.machine.specs.Run.{turn, after}
 use Rattle.machine.specs.Theorems.{RefusalChangesNothing, InsideBuffers, StaysInOrder, NeverOutOfOrder, NeverSeven}
 use Rattle.machine.proofs.Steps.{out-of-order}
-use Rattle.machine.proofs.Shapes.{Fits, Shape, refusal, silence, reply, request, channel, clash, shape}
+use Rattle.machine.proofs.Replies.{Fits}
+use Rattle.machine.proofs.Shapes.{Shape, refusal, silence, reply, request, channel, clash, shape}
 use Rattle.machine.proofs.Kept.{step-kept}
 
 module _ (s : State) (m : List ℕ) (e : Event) where
@@ -29,9 +30,9 @@ module _ (s : State) (m : List ℕ) (e : Event) where
   whole : {t : Turn State} → Shape s m e t → (p : List ℕ) → t .reply ≡ some p → Fits e p
   whole (refusal k l) p a = clash (cc)
   whole (silence f m′) p a = clash (cc)
-  whole (reply r f l) p a = let q : r ≡ p = cc in rw q at l
+  whole (reply r f l) p a = let q : r ≡ p = cc in rw q at (l .fits)
   whole (request h command k m′) p a = clash (cc)
-  whole (channel p′ space i l) p a = let q : initReply p′ (record { 0 = s .given + 1 }) ≡ p = cc in rw q at l
+  whole (channel p′ space i l) p a = let q : initReply p′ (record { 0 = s .given + 1 }) ≡ p = cc in rw q at (l .fits)
 
 pub refusal-changes-nothing : RefusalChangesNothing
 refusal-changes-nothing s m e n a = refused s m e (shape s m e) n a .0

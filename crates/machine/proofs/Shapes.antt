@@ -1,39 +1,39 @@
 -- What any call can come to: five shapes of a turn, found by one walk over the tables. What is said of every call is proved from these.
 use Prim.Native.Nat.{ℕ, _+_, _≤_, _<_}
 use mathlib.Core.Path.{_≡_, refl, sym, _∙_}
-use mathlib.Core.Bool.{true, false, true≢false}
-use mathlib.Core.List.{List, [], _∷_}
+use mathlib.Core.Bool.{true, true≢false}
+use mathlib.Core.List.{List}
 use native.Mathlib.Omega.{arith}
+use borrow.Author.Tests.{leb-true, leb-false}
 use lib.ListN.{length}
 use Rattle.wire.specs.declared.Channel.{Channel}
-use Rattle.wire.specs.Packet.{packetSize, init, error, channelOf, errorOn, initReply}
-use Rattle.wire.proofs.Readings.{padded}
+use Rattle.wire.specs.Packet.{packetSize, channelOf, opens, commandOf, lengthOf, errorOn, initReply}
 use Rattle.state.specs.declared.Ticket.{Ticket}
 use Rattle.state.specs.declared.Phase.{Phase}
 use Rattle.state.specs.declared.Phase.the-variants.{Idle, Gathering, Waiting, Answering}
 use Rattle.state.specs.declared.Work.{Work}
 use Rattle.state.specs.declared.State.{State}
 use Rattle.state.specs.Table.{cases, row}
-use Rattle.state.specs.Order.{inOrder}
+use Rattle.state.specs.Order.{channels, inOrder}
 use Rattle.state.specs.Answers.{within}
+use Rattle.state.proofs.Ordered.{count-in-order, answering-parts}
 use Rattle.command.specs.declared.Checked.{Checked}
 use Rattle.command.specs.declared.Checked.the-variants as checked
+use Rattle.table.specs.Opening.{standingOf}
+use Rattle.table.proofs.Verdicts.{both, Grounds, grounds}
 use Rattle.table.specs.declared.Verdict.{Verdict}
 use Rattle.table.specs.declared.Verdict.the-variants.{Nothing, Error, Dropped, NextChannel, ThisChannel, Cancelled, Opened}
 use Rattle.machine.specs.Machine.{Event, packet, time, deliver, fetch, Turn, refuses, quiet, says, handed, at, beside, judged, completed, taken, carriedOut, opening, continuing, packetRows, timeRows, deliverRows, fetchRows, lent, rows, step}
 use Rattle.machine.specs.Run.{spaceOf}
 use Rattle.machine.proofs.Steps.{step-cases, out-of-order, packet-lent, time-lent, fetch-lent}
-
--- a reply packet of 64 bytes, for a reply buffer of at least 64
-abbrev pub Fits : Event → List ℕ → Type 0
-Fits e r = (length r ≡ packetSize) × (packetSize ≤ spaceOf e)
+use Rattle.machine.proofs.Replies.{Full, Plain, Next, error-plain, init-plain, answer-plain, next-made}
 
 pub data Shape (s : State) (m : List ℕ) (e : Event) : Turn State → Type 0 where
   refusal : (n : ℕ) → (inOrder s ≡ true → n < 7) → Shape s m e (refuses n s m)
   silence : (f : Phase) (m′ : List ℕ) → Shape s m e (quiet (within s f) m′)
-  reply : (r : List ℕ) (f : Phase) → Fits e r → Shape s m e (says r (within s f) m)
+  reply : (r : List ℕ) (f : Phase) → Plain s e r → Shape s m e (says r (within s f) m)
   request : (h : Channel) (command n : ℕ) (m′ : List ℕ) → Shape s m e (beside (s .given) (handed (s .work) h command n m′))
-  channel : (p : List ℕ) (space : ℕ) → e ≡ packet p space → Fits e (initReply p (record { 0 = s .given + 1 }))
+  channel : (p : List ℕ) (space : ℕ) → e ≡ packet p space → Next s e p
       → Shape s m e (says (initReply p (record { 0 = s .given + 1 })) (at (s .given + 1) (s .work)) m)
 
 -- two constructors are never equal
@@ -41,14 +41,6 @@ pub clash : {P : Type 0} → _≡_ {A = ℕ} 0 1 → P
 clash e = absurd (omega arith)
 
 -- ---- the tables
-
-error-whole : (c : Channel) (code : ℕ) → length (errorOn c code) ≡ packetSize
-unfolding errorOn
-error-whole c code = padded c error 1 0 (code ∷ []) .0
-
-init-whole : (p : List ℕ) (c : Channel) → length (initReply p c) ≡ packetSize
-unfolding initReply
-init-whole p c = padded (channelOf p) init 17 0 _ .0
 
 module _ (s : State) (m : List ℕ) (e : Event) where
   -- of the rows that do not see the count of channels
@@ -78,54 +70,65 @@ module _ (s : State) (m : List ℕ) (e : Event) where
       (λ _. row Of _ _ _ (λ _. refusal 6 (λ _. omega arith)) (λ _. silence _ _)))
   deliver-shape (Answering h command n k) ticket bytes = refusal 4 (λ _. omega arith)
 
-  -- the rows that reply, where the reply buffer is long enough
-  module _ (room : packetSize ≤ spaceOf e) where
-    says-error : (c : Channel) (code : ℕ) (f : Phase) → Shape s m e (says (errorOn c code) (within s f) m)
-    says-error c code f = reply (errorOn c code) f (error-whole c code, room)
+  -- the rows that reply, where the state is in order and the reply buffer is long enough
+  module _ (o : inOrder s ≡ true) (room : packetSize ≤ spaceOf e) where
+    says-error : (c : Channel) (code : ℕ) (f : Phase) → (code ≡ 0x7F → Full s e) → Shape s m e (says (errorOn c code) (within s f) m)
+    says-error c code f full = reply (errorOn c code) f (error-plain s e room c code full)
 
-    carried-shape : (p : List ℕ) (space : ℕ) → e ≡ packet p space → (v : Verdict) → Shape s m e (carriedOut v s m p)
-    unfolding carriedOut
-    carried-shape p space i Nothing = unchanged
-    carried-shape p space i (Error code) = says-error (channelOf p) code (s .work .phase)
-    carried-shape p space i (Dropped code) = says-error (channelOf p) code Idle
-    carried-shape p space i NextChannel = channel p space i (init-whole p _, room)
-    carried-shape p space i ThisChannel = reply _ Idle (init-whole p (channelOf p), room)
-    carried-shape p space i Cancelled = silence _ _
-    carried-shape p space i Opened = taken-shape _ _ _ _ _ _
+    module _ (p : List ℕ) (space : ℕ) (i : e ≡ packet p space) (l : length p ≡ packetSize) (x : opens p ≡ true) where
+      -- why the table gives a verdict on p
+      abbrev Why : Verdict → Type 0
+      Why = Grounds (s .given) (standingOf (s .work .phase) (channelOf p)) (channelOf p) (commandOf p) (lengthOf p)
+
+      full : (code : ℕ) → Why (Error code) → code ≡ 0x7F → Full s e
+      full code g c =
+          (p, space, i, both (opens p) _ x (g c .0), omega (arith, leb-true channels (s .given) (g c .1), count-in-order s o))
+
+      carried-shape : (v : Verdict) → Why v → Shape s m e (carriedOut v s m p)
+      unfolding carriedOut
+      carried-shape Nothing g = unchanged
+      carried-shape (Error code) g = says-error (channelOf p) code (s .work .phase) (full code g)
+      carried-shape (Dropped code) g = says-error (channelOf p) code Idle (full code g)
+      carried-shape NextChannel g =
+          channel p space i (next-made s e room p (both (opens p) _ x (g .0)) l (leb-false channels (s .given) (g .1)))
+      carried-shape ThisChannel g = reply _ Idle (init-plain s e room p o g)
+      carried-shape Cancelled g = silence _ _
+      carried-shape Opened g = taken-shape _ _ _ _ _ _
 
     continuing-shape : (f : Phase) (p : List ℕ) → Of (continuing (s .work) f m p)
     unfolding continuing
     continuing-shape Idle p = unchanged
     continuing-shape (Gathering h command n k left) p =
-        row Of _ _ _ (λ _. unchanged) (λ _. row Of _ _ _ (λ _. says-error (channelOf p) 0x04 Idle) (λ _. taken-shape _ _ _ _ _ _))
+        row Of _ _ _ (λ _. unchanged) (λ _. row Of _ _ _ (λ _. says-error (channelOf p) 0x04 Idle (λ c. absurd (omega arith))) (λ _. taken-shape _ _ _ _ _ _))
     continuing-shape (Waiting h command n) p = unchanged
     continuing-shape (Answering h command n k) p = unchanged
 
     time-shape : (f : Phase) (ms : ℕ) → Of (timeRows (s .work) f ms m)
     unfolding timeRows
     time-shape Idle ms = unchanged
-    time-shape (Gathering h command n k left) ms = row Of _ _ _ (λ _. says-error h 0x05 Idle) (λ _. silence _ _)
+    time-shape (Gathering h command n k left) ms = row Of _ _ _ (λ _. says-error h 0x05 Idle (λ c. absurd (omega arith))) (λ _. silence _ _)
     time-shape (Waiting h command n) ms = unchanged
     time-shape (Answering h command n k) ms = unchanged
 
-    fetch-shape : (f : Phase) → Of (fetchRows (s .work) f m)
+    fetch-shape : (f : Phase) → s .work .phase ≡ f → Of (fetchRows (s .work) f m)
     unfolding fetchRows
-    fetch-shape Idle = refusal 4 (λ _. omega arith)
-    fetch-shape (Gathering h command n k left) = refusal 4 (λ _. omega arith)
-    fetch-shape (Waiting h command n) = refusal 4 (λ _. omega arith)
-    fetch-shape (Answering h command n k) = reply _ _ (padded h command n k m .0, room)
+    fetch-shape Idle q = refusal 4 (λ _. omega arith)
+    fetch-shape (Gathering h command n k left) q = refusal 4 (λ _. omega arith)
+    fetch-shape (Waiting h command n) q = refusal 4 (λ _. omega arith)
+    fetch-shape (Answering h command n k) q = reply _ _ (answer-plain s e room h command n k m o (answering-parts s h command n k o q))
 
 -- ---- the calls
 
-rows-shape : (s : State) (m : List ℕ) (e : Event) → lent e (length m) ≡ 0 → Shape s m e (rows s m e)
+rows-shape : (s : State) (m : List ℕ) (e : Event) → inOrder s ≡ true → lent e (length m) ≡ 0 → Shape s m e (rows s m e)
 unfolding rows packetRows opening
-rows-shape s m (packet p space) l =
-    let room = packet-lent p space (length m) l .0 in
+rows-shape s m (packet p space) o l =
+    let q = packet-lent p space (length m) l in
     row (Shape s m (packet p space)) _ _ _
-    (λ _. carried-shape s m (packet p space) room p space refl _) (λ _. continuing-shape s m (packet p space) room (s .work .phase) p)
-rows-shape s m (time ms space) l = time-shape s m (time ms space) (time-lent ms space (length m) l) (s .work .phase) ms
-rows-shape s m (deliver ticket bytes) l = deliver-shape s m (deliver ticket bytes) (s .work .phase) ticket bytes
-rows-shape s m (fetch space) l = fetch-shape s m (fetch space) (fetch-lent space (length m) l) (s .work .phase)
+    (λ x. carried-shape s m (packet p space) o (q .1) p space refl (q .0) x _ (grounds (s .given) _ (channelOf p) (commandOf p) (lengthOf p)))
+    (λ _. continuing-shape s m (packet p space) o (q .1) (s .work .phase) p)
+rows-shape s m (time ms space) o l = time-shape s m (time ms space) o (time-lent ms space (length m) l) (s .work .phase) ms
+rows-shape s m (deliver ticket bytes) o l = deliver-shape s m (deliver ticket bytes) (s .work .phase) ticket bytes
+rows-shape s m (fetch space) o l = fetch-shape s m (fetch space) o (fetch-lent space (length m) l) (s .work .phase) refl
 
 lent-below : (e : Event) (size : ℕ) → lent e size < 7
 unfolding lent
@@ -141,5 +144,5 @@ lent-below (fetch space) size =
 pub shape : (s : State) (m : List ℕ) (e : Event) → Shape s m e (step s m e)
 shape s m e =
     cases (inOrder s)
-    (λ o. step-cases (Shape s m e) s m e o (λ _. refusal _ (λ _. lent-below e (length m))) (λ l. rows-shape s m e l))
+    (λ o. step-cases (Shape s m e) s m e o (λ _. refusal _ (λ _. lent-below e (length m))) (λ l. rows-shape s m e o l))
     (λ o. rw (out-of-order s m e o) (refusal 7 (λ i. absurd (true≢false (sym i ∙ o)))))

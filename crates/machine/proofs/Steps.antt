@@ -22,18 +22,24 @@ step-cases P s m e o refused taken =
     row P _ _ _ (λ x. absurd (true≢false (sym o ∙ not-true _ x)))
     (λ _. row P _ _ _ (λ x. refused (eqb-false _ 0 (not-true _ x))) (λ x. taken (eqb-true (lent e (length m)) 0 (not-false _ x))))
 
+pub step-rows : (s : State) (m : List ℕ) (e : Event) → inOrder s ≡ true → lent e (length m) ≡ 0 → step s m e ≡ rows s m e
+unfolding step _⇒_else_
+step-rows s m e o l = rw (o, l)
+
 pub out-of-order : (s : State) (m : List ℕ) (e : Event) → inOrder s ≡ false → step s m e ≡ refuses 7 s m
 unfolding step _⇒_else_
 out-of-order s m e o = rw o
 
 -- ---- what passes refusals 1 to 3 is lent buffers that are long enough
 
-pub packet-lent : (p : List ℕ) (space size : ℕ) → lent (packet p space) size ≡ 0 → (packetSize ≤ space) × (longest ≤ size)
+pub packet-lent : (p : List ℕ) (space size : ℕ) → lent (packet p space) size ≡ 0
+    → (length p ≡ packetSize) × (packetSize ≤ space) × (longest ≤ size)
 unfolding lent
 packet-lent p space size =
-    let P : ℕ → Type 0 = λ n. n ≡ 0 → (packetSize ≤ space) × (longest ≤ size) in
-    row P _ _ _ (λ _ z. absurd (omega arith)) (λ _. row P _ _ _ (λ _ z. absurd (omega arith))
-    (λ a. row P _ _ _ (λ _ z. absurd (omega arith)) (λ b _. (ltb-false space packetSize a, ltb-false size longest b))))
+    let P : ℕ → Type 0 = λ n. n ≡ 0 → (length p ≡ packetSize) × (packetSize ≤ space) × (longest ≤ size) in
+    row P _ _ _ (λ _ z. absurd (omega arith)) (λ w. row P _ _ _ (λ _ z. absurd (omega arith))
+    (λ a. row P _ _ _ (λ _ z. absurd (omega arith))
+    (λ b _. (eqb-true (length p) packetSize (not-false _ w), ltb-false space packetSize a, ltb-false size longest b))))
 
 pub time-lent : (ms space size : ℕ) → lent (time ms space) size ≡ 0 → packetSize ≤ space
 unfolding lent

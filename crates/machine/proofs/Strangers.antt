@@ -4,10 +4,9 @@ use Prim.Native.Nat.{ℕ}
 use mathlib.Core.Path.{_≡_, refl, sym, ap, _∙_}
 use mathlib.Core.Bool.{true, false, true≢false}
 use mathlib.Core.List.{List, [], _∷_}
-use native.Mathlib.Omega.{arith}
 use lib.ListN.{length}
 use lib.Dec.{eqb, leb}
-use borrow.Author.Tests.{eqb-true, eqb-false, eq-eqb, ne-eqb, not-true}
+use borrow.Author.Tests.{eqb-true, eqb-false, eq-eqb, not-true}
 use Rattle.wire.specs.declared.Channel.{Channel}
 use Rattle.wire.specs.Packet.{init, cancel, channelOf, opens, commandOf, lengthOf}
 use Rattle.state.specs.declared.Phase.{Phase}
@@ -16,16 +15,17 @@ use Rattle.state.specs.declared.Work.{Work}
 use Rattle.state.specs.declared.State.{State}
 use Rattle.state.specs.Table.{_⇒_else_, cases}
 use Rattle.state.specs.Order.{channels, known, inOrder}
-use Rattle.state.proofs.Ordered.{count-in-order, gathering-parts, answering-parts}
-use Rattle.state.proofs.Making.{known-below, waiting-parts}
+use Rattle.state.proofs.Ordered.{gathering-parts, answering-parts}
+use Rattle.state.proofs.Making.{waiting-parts}
 use Rattle.table.specs.declared.Standing.{Standing}
 use Rattle.table.specs.declared.Standing.the-variants.{Other, Gathers, Waits, Answers}
-use Rattle.table.specs.Opening.{broadcast, isBroadcast, same, ifHolder, standingOf, isHolder, openingRows}
+use Rattle.table.specs.Opening.{isBroadcast, same, ifHolder, standingOf, isHolder, openingRows}
 use Rattle.machine.specs.Machine.{Event, packet, time, deliver, fetch, Turn, quiet, at, beside, carriedOut, opening, continuing, packetRows, lent, rows, step}
 use Rattle.machine.specs.Run.{Entry, entry, run}
 use Rattle.machine.specs.Mix.{holds, mine, theirs, only, Keeps, Seen, othersRows, allowed, countAfter, seen, allowedAll, AsAlone, Merge, none-left, from-first, from-second, Every}
 use Rattle.machine.specs.Theorems.{Strangers, EveryMix, TwoMixes}
 use Rattle.table.proofs.Verdicts.{verdict-cases}
+use Rattle.machine.proofs.Replies.{not-broadcast}
 use Rattle.machine.proofs.Kept.{step-kept}
 
 -- ---- who holds the key
@@ -106,12 +106,6 @@ others-step h given w m (fetch space) o a b = absurd (true≢false b)
 -- a turn but for the count of channels
 abbrev forget : Turn State → Turn Work
 forget t = record { answer = t .answer; reply = t .reply; state = t .state .work; message = t .message }
-
-pub not-broadcast : (s : State) (c : Channel) → inOrder s ≡ true → known (s .given) c ≡ true → isBroadcast c ≡ false
-not-broadcast s c o k =
-    let i = count-in-order s o in
-    let j = known-below (s .given) c k in
-    ne-eqb (c .0) broadcast (λ e. omega arith)
 
 -- a known channel's rows do not look at the count
 same-rows : (g g₀ : ℕ) (at : Standing) (c : Channel) (command n : ℕ) → isBroadcast c ≡ false → known g c ≡ true → known g₀ c ≡ true

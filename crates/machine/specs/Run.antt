@@ -1,10 +1,13 @@
 -- Sequences of calls: the words of what is proved of them.
 use Prim.Native.Nat.{ℕ, zero, suc, _+_}
-use mathlib.Core.Bool.{Bool, true, false, not}
+use mathlib.Core.Path.{_≡_}
+use mathlib.Core.Bool.{Bool, true, false, not, _&&_}
 use mathlib.Core.Option.{Option, none, some}
 use mathlib.Core.List.{List, [], _∷_}
+use lib.ListN.{drop}
 use lib.Dec.{ltb}
-use Rattle.wire.specs.Packet.{packetSize, longest}
+use Rattle.wire.specs.declared.Channel.{Channel}
+use Rattle.wire.specs.Packet.{packetSize, longest, init, error, byte, channelOf, opens, commandOf, lengthOf}
 use Rattle.state.specs.declared.Phase.{Phase}
 use Rattle.state.specs.declared.Phase.the-variants.{Idle, Gathering, Waiting, Answering}
 use Rattle.state.specs.declared.State.{State}
@@ -12,6 +15,7 @@ use Rattle.state.specs.declared.Answer.{Answer}
 use Rattle.state.specs.declared.Answer.the-variants.{Refused, Quiet, Replied, Handed}
 use Rattle.state.specs.Table.{_⇒_else_}
 use Rattle.state.specs.Order.{inOrder}
+use Rattle.table.specs.Opening.{isBroadcast, asks}
 use Rattle.machine.specs.Machine.{Event, packet, time, deliver, fetch, Turn, step}
 
 -- ---- calls, each with the message buffer that its caller lends: between calls the buffer is the caller's
@@ -141,3 +145,24 @@ requests (Handed t) = 1
 unfoldable pub requestsIn : State → List Call → ℕ
 requestsIn s [] = 0
 requestsIn s (c ∷ cs) = requests (turn s c .answer) + requestsIn (turn s c .state) cs
+
+-- ---- channels
+
+-- a packet that asks for a channel
+abbrev pub asksForOne : List ℕ → Bool
+asksForOne p = opens p && asks (channelOf p) (commandOf p) (lengthOf p)
+
+-- a reply that gives channel c, as a host reads it: an INIT reply on broadcast, with c behind the header's 7 bytes and the nonce's 8
+pub record Gives (c : Channel) (r : List ℕ) : Type 0 where
+  pub channel : isBroadcast (channelOf r) ≡ true
+  pub command : commandOf r ≡ init
+  pub carried : channelOf (drop 15 r) ≡ c
+
+-- an error packet with this code
+pub record Errs (code : ℕ) (r : List ℕ) : Type 0 where
+  pub command : commandOf r ≡ error
+  pub carried : byte r 7 ≡ code
+
+-- a call gets such a reply
+abbrev pub Gets : (List ℕ → Type 0) → Turn State → Type 0
+Gets P t = (r : List ℕ) × (t .reply ≡ some r) × P r

@@ -6,7 +6,7 @@ use mathlib.Core.Option.{some}
 use mathlib.Core.List.{List, _++_}
 use lib.ListN.{length, take, drop}
 use Rattle.wire.specs.declared.Channel.{Channel}
-use Rattle.wire.specs.Packet.{packetSize, longest, ping, cbor, packets, initReply}
+use Rattle.wire.specs.Packet.{packetSize, longest, ping, cbor, packets, channelOf, errorOn, initReply}
 use Rattle.wire.specs.Roundtrip.{Brings, packetsOf, putTogether}
 use Rattle.state.specs.declared.Ticket.{Ticket}
 use Rattle.state.specs.declared.Phase.the-variants.{Idle, Gathering, Answering}
@@ -16,10 +16,10 @@ use Rattle.state.specs.declared.Outcome.{Outcome}
 use Rattle.state.specs.Order.{channels, gatheringTime, known, starts, inOrder}
 use Rattle.state.specs.Answers.{within}
 use Rattle.command.specs.Check.{checkOf}
-use Rattle.table.specs.Opening.{badLength}
-use Rattle.machine.specs.Machine.{Event, packet, deliver, refuses, says, at, beside, nextTicket, judged, completed, step, fresh}
+use Rattle.table.specs.Opening.{broadcast, badLength}
+use Rattle.machine.specs.Machine.{Event, packet, deliver, refuses, says, at, beside, nextTicket, judged, completed, lent, step, fresh}
 use Rattle.machine.specs.Call.{Effect, effect}
-use Rattle.machine.specs.Run.{Call, spaceOf, after, run, sends, fetches, endsIn, repliesOf, gathers, spent, total, stillGathers, lateNumber, requestsIn}
+use Rattle.machine.specs.Run.{Call, turn, spaceOf, after, run, sends, fetches, endsIn, repliesOf, gathers, spent, total, stillGathers, lateNumber, requestsIn, asksForOne, Gives, Errs, Gets}
 use Rattle.machine.specs.Mix.{holds, mine, theirs, only, Keeps, countAfter, allowedAll, AsAlone, Alike, Merge, Every}
 
 -- ---- one outcome
@@ -193,13 +193,45 @@ TicketNotAgain =
 
 -- ---- channels
 
--- a call that changes the count of channels is a packet that gets the INIT reply with the next channel, and changes nothing else
+-- a call that changes the count of channels is a packet that asks for a channel; it gets the INIT reply with the next one, and changes
+-- nothing else
 abbrev pub ChannelGiven : Type 0
 ChannelGiven =
     (s : State) (m : List ℕ) (e : Event) → (step s m e .state .given ≡ s .given → ⊥)
-    → (p : List ℕ) × (space : ℕ) × (e ≡ packet p space)
+    → (p : List ℕ) × (space : ℕ) × (e ≡ packet p space) × (asksForOne p ≡ true)
     × (step s m e ≡ says (initReply p (record { 0 = s .given + 1 })) (at (s .given + 1) (s .work)) m)
 
--- the count never falls, and is at most 65,535
+-- the count never falls, and never passes `channels`
 abbrev pub ChannelsCount : Type 0
 ChannelsCount = (s : State) (calls : List Call) → inOrder s ≡ true → (s .given ≤ after s calls .given) × (after s calls .given ≤ channels)
+
+-- a channel that is given, in any reply to any call, is the next one, and it is counted
+abbrev pub NextGiven : Type 0
+NextGiven =
+    (s : State) (m : List ℕ) (e : Event) (c : Channel) → Gets (Gives c) (step s m e)
+    → (c .0 ≡ s .given + 1) × (step s m e .state .given ≡ s .given + 1)
+
+-- no channel that the key ever gives is 0 or 0xFFFFFFFF
+abbrev pub NeverReserved : Type 0
+NeverReserved =
+    (s : State) (m : List ℕ) (e : Event) (c : Channel) → Gets (Gives c) (step s m e)
+    → (c .0 ≡ 0 → ⊥) × (c .0 ≡ broadcast → ⊥)
+
+-- no two INITs get the same one, whatever calls are made between them
+abbrev pub NeverTwice : Type 0
+NeverTwice =
+    (s : State) (x y : Call) (between : List Call) (c : Channel) → Gets (Gives c) (turn s x)
+    → Gets (Gives c) (turn (after (turn s x .state) between) y) → ⊥
+
+-- what asks for a channel is given one, in every state; once all are given it draws 0x7F, and nothing changes
+abbrev pub GivenUntilFull : Type 0
+GivenUntilFull =
+    (s : State) (m p : List ℕ) (space : ℕ) → inOrder s ≡ true → lent (packet p space) (length m) ≡ 0 → asksForOne p ≡ true
+    → (s .given < channels → Gets (Gives (record { 0 = s .given + 1 })) (step s m (packet p space)))
+    × (s .given ≡ channels → step s m (packet p space) ≡ says (errorOn (channelOf p) 0x7F) s m)
+
+-- 0x7F comes of nothing else
+abbrev pub OnlyWhenFull : Type 0
+OnlyWhenFull =
+    (s : State) (m : List ℕ) (e : Event) → Gets (Errs 0x7F) (step s m e)
+    → (p : List ℕ) × (space : ℕ) × (e ≡ packet p space) × (asksForOne p ≡ true) × (s .given ≡ channels)

@@ -13,7 +13,7 @@ use Rattle.state.specs.declared.State.{State}
 use Rattle.state.specs.Table.{cases, all-head, all-tail}
 use Rattle.state.specs.Order.{channels, gatheringTime, known, starts, messageInOrder, phaseInOrder, inOrder}
 
--- at most 65,535 channels
+-- no more channels than there are to give
 pub count-in-order : (s : State) → inOrder s ≡ true → s .given ≤ channels
 unfolding inOrder
 count-in-order s o = leb-true (s .given) channels (all-head _ _ o)

@@ -10,9 +10,9 @@ use Rattle.state.specs.declared.Phase.the-variants.{Idle, Gathering, Wai
 use Rattle.state.specs.declared.State.{State}
 use Rattle.state.specs.Table.{all}
 
--- channels are given as 1, 2, 3 and on, at most so many
+-- channels are given as 1, 2, 3 and on, at most so many (request 2026-10): every number but 0 and broadcast
 abbrev pub channels : ℕ
-channels = 65535
+channels = 4_294_967_294
 
 -- gathering has so many milliseconds from its opening
 abbrev pub gatheringTime : ℕ
@@ -43,6 +43,6 @@ phaseInOrder given (Gathering h command n done left) =
 phaseInOrder given (Waiting h command n) = all (known given h ∷ leb n longest ∷ toCore command ∷ [])
 phaseInOrder given (Answering h command n done) = messageInOrder given h command n done
 
--- at most 65,535 channels, and the transaction in order
+-- no more channels than that, and the transaction in order
 unfoldable pub inOrder : State → Bool
 inOrder s = all (leb (s .given) channels ∷ phaseInOrder (s .given) (s .work .phase) ∷ [])

@@ -6,8 +6,8 @@ use wire::packet;
 ghost use mathlib.Core.Path.{_≡_};
 ghost use Rattle.state.specs.Order.{known, starts, toCore, messageInOrder, phaseInOrder, inOrder};
 
-// Channels are given as 1, 2, 3 and on, at most so many.
-pub const CHANNELS: u32 = 65535;
+// Channels are given as 1, 2, 3 and on, at most so many: every number but 0 and broadcast.
+pub const CHANNELS: u32 = 4_294_967_294;
 
 // The time that gathering has from its opening, in milliseconds.
 pub const GATHERING_TIME: u32 = 3000;

@@ -1,26 +1,92 @@
--- What holds of every verdict that the opening table can give: each fact about all its rows is proved from these seven cases.
-use Prim.Native.Nat.{ℕ, _≤_}
-use mathlib.Core.Path.{_≡_, sym, ap}
-use mathlib.Core.Bool.{Bool, true, false, _&&_, true≢false}
+-- Why the opening table gives a verdict: each fact about all its rows is proved from the grounds of its seven verdicts.
+use Prim.Native.Nat.{ℕ, _≤_, _<_}
+use mathlib.Core.Path.{_≡_, refl, sym}
+use mathlib.Core.Bool.{Bool, true, false, not, _&&_, true≢false}
+use native.Mathlib.Omega.{arith}
 use lib.Dec.{leb, ltb, eqb}
 use borrow.Author.Tests.{not-false, ltb-false}
 use Rattle.wire.specs.declared.Channel.{Channel}
-use Rattle.wire.specs.Packet.{longest, cancel}
-use Rattle.state.specs.Table.{cases, row}
+use Rattle.wire.specs.Packet.{longest, init, cancel}
+use Rattle.state.specs.Table.{_⇒_else_, all, cases, row, all-head, all-tail}
 use Rattle.state.specs.Order.{channels, known, starts}
 use Rattle.table.specs.declared.Standing.{Standing}
 use Rattle.table.specs.declared.Verdict.{Verdict}
 use Rattle.table.specs.declared.Verdict.the-variants.{Nothing, Error, Dropped, NextChannel, ThisChannel, Cancelled, Opened}
-use Rattle.table.specs.Opening.{isBroadcast, isOther, isWaiting, isHolder, badLength, openingRows}
+use Rattle.table.specs.Opening.{isBroadcast, isOther, isWaiting, isHolder, badLength, openingRows, asks}
 
--- of a test `a && b`: it holds, so b does; it fails where a holds, so b fails
-second : (a b : Bool) → a && b ≡ true → b ≡ true
+-- of a test `a && b`: both hold, so it does; it holds, so both do; it fails where a holds, so b fails
+pub both : (a b : Bool) → a ≡ true → b ≡ true → a && b ≡ true
+both a b x y = rw (x, y)
+
+pub first : (a b : Bool) → a && b ≡ true → a ≡ true
+first true b e = refl
+first false b e = e
+
+pub second : (a b : Bool) → a && b ≡ true → b ≡ true
 second true b e = e
 second false b e = absurd (true≢false (sym e))
 
 other-half : (a b : Bool) → a ≡ true → a && b ≡ false → b ≡ false
 other-half a b x e = rw x at e
 
+-- a broadcast packet that is past the first two rows asks for a channel
+past-two : (c : Channel) (command n : ℕ) → isBroadcast c ≡ true → isBroadcast c && not (eqb command init) ≡ false
+    → isBroadcast c && not (eqb n 8) ≡ false → asks c command n ≡ true
+unfolding asks all _⇒_else_
+past-two c command n b i l =
+    rw (b, not-false (eqb command init) (other-half (isBroadcast c) _ b i), not-false (eqb n 8) (other-half (isBroadcast c) _ b l))
+
+-- the row of what asks for a channel
+pub asked-row : (given : ℕ) (at : Standing) (c : Channel) (command n : ℕ) → asks c command n ≡ true
+    → openingRows given at c command n ≡ (leb channels given ⇒ Error 0x7F else NextChannel)
+unfolding asks openingRows _⇒_else_
+asked-row given at c command n e =
+    let t = all-tail _ _ e in
+    rw (all-head (isBroadcast c) _ e, all-head (eqb command init) _ t, all-head (eqb n 8) _ (all-tail _ _ t))
+
+pub asks-broadcast : (c : Channel) (command n : ℕ) → asks c command n ≡ true → isBroadcast c ≡ true
+unfolding asks
+asks-broadcast c command n e = all-head _ _ e
+
+module _ (given : ℕ) (at : Standing) (c : Channel) (command n : ℕ) where
+  -- 0x7F is for what asks for a channel when all are given
+  abbrev pub AllGiven : ℕ → Type 0
+  AllGiven code = code ≡ 0x7F → (asks c command n ≡ true) × (leb channels given ≡ true)
+
+  -- what is known where the table gives a verdict
+  abbrev pub Grounds : Verdict → Type 0
+  Grounds Nothing = Unit {0}
+  Grounds (Error code) = AllGiven code
+  Grounds (Dropped code) = AllGiven code
+  Grounds NextChannel = (asks c command n ≡ true) × (leb channels given ≡ false)
+  Grounds ThisChannel = known given c ≡ true
+  Grounds Cancelled = (known given c ≡ true) × (isWaiting at ≡ true)
+  Grounds Opened =
+      (known given c ≡ true) × (isOther at ≡ false) × (isHolder at ≡ false) × (starts command ≡ true) × (badLength command n ≡ false)
+
+  below : {code : ℕ} → code < 0x7F → AllGiven code
+  below l e = absurd (omega arith)
+
+  pub grounds : Grounds (openingRows given at c command n)
+  unfolding openingRows
+  grounds =
+      row Grounds _ _ _ (λ _. below (omega arith))
+      (λ i. row Grounds _ _ _ (λ _. below (omega arith))
+      (λ l. row Grounds _ _ _ (λ f _. let b = first (isBroadcast c) _ f in (past-two c command n b i l, second (isBroadcast c) _ f))
+      (λ f. row Grounds _ _ _ (λ b. (past-two c command n b i l, other-half (isBroadcast c) _ b f))
+      (λ _. row Grounds _ _ _ (λ _. below (omega arith))
+      (λ k. row Grounds _ _ _ (λ w. (not-false _ k, second (eqb command cancel) _ w))
+      (λ _. row Grounds _ _ _ (λ _. tt)
+      (λ _. row Grounds _ _ _ (λ _. below (omega arith))
+      (λ o. row Grounds _ _ _ (λ _. below (omega arith))
+      (λ _. row Grounds _ _ _ (λ _. not-false _ k)
+      (λ _. row Grounds _ _ _ (λ _. below (omega arith))
+      (λ _. row Grounds _ _ _ (λ _. below (omega arith))
+      (λ h. row Grounds _ _ _ (λ _. below (omega arith))
+      (λ s. row Grounds _ _ _ (λ _. below (omega arith))
+      (λ g. (not-false _ k, o, h, not-false _ s, g)))))))))))))))
+
+-- by cases on the verdict, with those of its grounds that most proofs want
 pub verdict-cases : (P : Verdict → Type 0) (given : ℕ) (at : Standing) (c : Channel) (command n : ℕ)
     → P Nothing
     → ((code : ℕ) → P (Error code))
@@ -30,44 +96,21 @@ pub verdict-cases : (P : Verdict → Type 0) (given : ℕ) (at : Standing) (c : 
     → (known given c ≡ true → isWaiting at ≡ true → P Cancelled)
     → (known given c ≡ true → isOther at ≡ false → isHolder at ≡ false → starts command ≡ true → badLength command n ≡ false → P Opened)
     → P (openingRows given at c command n)
-unfolding openingRows
-verdict-cases P given at c command n nothing error dropped next this cancelled opened =
-    row P _ _ _ (λ _. error _)
-    (λ _. row P _ _ _ (λ _. error _)
-    (λ _. row P _ _ _ (λ _. error _)
-    (λ f. row P _ _ _ (λ b. next b (other-half (isBroadcast c) (leb channels given) b f))
-    (λ _. row P _ _ _ (λ _. error _)
-    (λ k. row P _ _ _ (λ w. cancelled (not-false _ k) (second (eqb command cancel) (isWaiting at) w))
-    (λ _. row P _ _ _ (λ _. nothing)
-    (λ _. row P _ _ _ (λ _. error _)
-    (λ o. row P _ _ _ (λ _. error _)
-    (λ _. row P _ _ _ (λ _. this)
-    (λ _. row P _ _ _ (λ _. dropped _)
-    (λ _. row P _ _ _ (λ _. error _)
-    (λ h. row P _ _ _ (λ _. dropped _)
-    (λ s. row P _ _ _ (λ _. dropped _)
-    (λ l. opened (not-false _ k) o h (not-false _ s) l))))))))))))))
+verdict-cases P given at c command n nothing error dropped next this cancelled opened = by (openingRows given at c command n) (grounds given at c command n)
+  where
+    by : (v : Verdict) → Grounds given at c command n v → P v
+    by Nothing g = nothing
+    by (Error code) g = error code
+    by (Dropped code) g = dropped code
+    by NextChannel g = next (asks-broadcast c command n (g .0)) (g .1)
+    by ThisChannel g = this
+    by Cancelled g = cancelled (g .0) (g .1)
+    by Opened g = opened (g .0) (g .1) (g .2) (g .3) (g .4)
 
 pub good-length : (command n : ℕ) → badLength command n ≡ false → n ≤ longest
 unfolding badLength
 good-length command n e = cases (ltb longest n) (λ x. absurd (true≢false (rw x at e))) (λ x. ltb-false longest n x)
 
-abbrev isOpened : Verdict → Bool
-isOpened Nothing = false
-isOpened (Error code) = false
-isOpened (Dropped code) = false
-isOpened NextChannel = false
-isOpened ThisChannel = false
-isOpened Cancelled = false
-isOpened Opened = true
-
 -- a message that is opened is at most 7,609 bytes long
 pub opened-fits : (given : ℕ) (at : Standing) (c : Channel) (command n : ℕ) → openingRows given at c command n ≡ Opened → n ≤ longest
-opened-fits given at c command n e =
-    verdict-cases P given at c command n other (λ _. other) (λ _. other) (λ _ _. other) other (λ _ _. other) (λ _ _ _ _ l _. good-length command n l) (ap isOpened e)
-  where
-    P : Verdict → Type 0
-    P v = isOpened v ≡ true → n ≤ longest
-
-    other : false ≡ true → n ≤ longest
-    other f = absurd (true≢false (sym f))
+opened-fits given at c command n e = let g : Grounds given at c command n Opened = rw e at (grounds given at c command n) in good-length command n (g .4)

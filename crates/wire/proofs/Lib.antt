@@ -3,3 +3,4 @@ pub mod Cuts
 pub mod Packets
 pub mod Roundtrips
 pub mod Readings
+pub mod Replies

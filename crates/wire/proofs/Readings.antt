@@ -72,7 +72,7 @@ padded c command n k buffer =
 
 -- ---- what a packet says
 
-bytes4-back : (n : ℕ) → n < 2 ^ 32 → ((n / 256 / 256 / 256 % 256 * 256 + n / 256 / 256 % 256) * 256 + n / 256 % 256) * 256 + n % 256 ≡ n
+pub bytes4-back : (n : ℕ) → n < 2 ^ 32 → ((n / 256 / 256 / 256 % 256 * 256 + n / 256 / 256 % 256) * 256 + n / 256 % 256) * 256 + n % 256 ≡ n
 bytes4-back n h = omega arith
 
 five : (k : ℕ) → 4 < headerSize k

@@ -106,13 +106,19 @@ impl Writer {
         Channel(self.random.pick(&[early, early, any, channels]))
     }
 
+    /// A channel that is not given: the next one, one that is channel 1 to a program that reads
+    /// half of it or the bytes the other way round, or a high one. Of a full key it is 0.
     fn unknown_channel(&mut self) -> Channel {
-        let next = self.bench.key.channels.saturating_add(1);
+        let channels = self.bench.key.channels;
+        let next = channels.saturating_add(1);
         let high = (self.random.number() >> 32) as u32 | 1 << 31;
-        Channel(
+        let channel =
             self.random
-                .pick(&[0, next, next, 65_536, 0x0100_0000, 0xFFFF_FFFE, high]),
-        )
+                .pick(&[0, next, next, 0x0001_0001, 0x0100_0000, 0xFFFF_FFFE, high]);
+        if channel <= channels || channel == BROADCAST.0 {
+            return Channel(0);
+        }
+        Channel(channel)
     }
 
     fn random_command(&mut self) -> u8 {

@@ -7,9 +7,13 @@ use super::LENGTHS;
 use crate::key::{Key, Message, Ticket, Transaction, GATHERING_TIME, MOST_CHANNELS};
 use crate::packet::{packets_needed, Channel, BROADCAST, CANCEL, CBOR, INIT, PING};
 
-/// A state in order, as after many events.
+/// A state in order, as after many events: few channels are given, or about as many as 16 bits or
+/// a signed number can count, or all or almost all.
 pub fn in_order(random: &mut Random) -> Key {
-    let channels = random.pick(&[1, 2, 3, 4, 5, MOST_CHANNELS - 1, MOST_CHANNELS]);
+    let few = 1 + random.below(5) as u32;
+    let wide = random.pick(&[65_534, 65_535, 65_536, 65_537, (1 << 31) - 1, 1 << 31]);
+    let last = MOST_CHANNELS - random.below(3) as u32;
+    let channels = random.pick(&[few, wide, last]);
     let ticket = random.pick(&[0, 1, 5, u32::MAX - 1, u32::MAX]);
     let any = 1 + random.below(channels as usize) as u32;
     let holder = random.pick(&[1, channels, any]);
@@ -48,13 +52,20 @@ pub fn in_order(random: &mut Random) -> Key {
     }
 }
 
-/// A state that breaks one of refusal 7's bounds.
+/// A state that breaks one of refusal 7's bounds: that of the channels, or one of a transaction.
+/// The model is not asked, so that a state that it would wrongly take is tried too.
 pub fn out_of_order(random: &mut Random) -> Key {
+    if random.once_in(4) {
+        return Key {
+            channels: MOST_CHANNELS + 1,
+            ..in_order(random)
+        };
+    }
     loop {
         let mut key = in_order(random);
         let channels = key.channels;
         match &mut key.transaction {
-            Transaction::Idle => {}
+            Transaction::Idle => continue,
             Transaction::Gathering {
                 message,
                 done,
@@ -74,12 +85,7 @@ pub fn out_of_order(random: &mut Random) -> Key {
                 _ => break_message(random, message, channels),
             },
         }
-        if random.once_in(6) {
-            key.channels = random.pick(&[MOST_CHANNELS + 1, 1 << 31, u32::MAX]);
-        }
-        if !key.is_in_order() {
-            return key;
-        }
+        return key;
     }
 }
 

@@ -3,7 +3,7 @@
 use std::collections::BTreeMap;
 
 use crate::cbor::item_length;
-use crate::key::{Key, Transaction};
+use crate::key::{Key, Transaction, MOST_CHANNELS};
 use crate::line::Line;
 use crate::packet::{Packet, BROADCAST, CANCEL, CBOR, INIT, PACKET, PING};
 
@@ -48,6 +48,7 @@ impl Tally {
 
 fn phase(key: &Key) -> &'static str {
     match key.transaction {
+        _ if key.channels > MOST_CHANNELS => "overfull",
         _ if !key.is_in_order() => "out of order",
         Transaction::Idle => "idle",
         Transaction::Gathering { .. } => "gathering",
@@ -103,6 +104,9 @@ fn kind_of_answer(answer: &str, length: usize) -> String {
         ["ok", "ticket", _] => "ticket".to_string(),
         ["ok", "reply", packet] => match packet.get(8..10) {
             Some("bf") => format!("error {}", packet.get(14..16).unwrap_or_default()),
+            Some("86") if packet.starts_with("ffffffff") => {
+                sort_of_channel(packet.get(30..38).unwrap_or_default()).to_string()
+            }
             Some("86") => "INIT reply".to_string(),
             _ => "packet".to_string(),
         },
@@ -115,6 +119,16 @@ fn kind_of_answer(answer: &str, length: usize) -> String {
         }
         ["item", _] => "item".to_string(),
         _ => words.join(" "),
+    }
+}
+
+/// Which channel is given.
+fn sort_of_channel(channel: &str) -> &'static str {
+    match u32::from_str_radix(channel, 16) {
+        Ok(MOST_CHANNELS) => "the last channel",
+        Ok(1..=65_535) => "channel below 65536",
+        Ok(65_536..) => "channel beyond 65535",
+        _ => "no channel",
     }
 }
 

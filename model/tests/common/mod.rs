@@ -4,9 +4,13 @@ use model::line;
 use model::trial::program::Program;
 use model::trial::run::compare_lines;
 
+pub fn program() -> Program {
+    Program::find().unwrap_or_else(|missing| panic!("{missing}"))
+}
+
 /// Runs a script through the real program and the model.
 pub fn agree(lines: Vec<String>) {
-    let program = Program::find().unwrap_or_else(|missing| panic!("{missing}"));
+    let program = program();
     if let Err(difference) = compare_lines(&|lines| program.run(lines), lines) {
         panic!("{difference}");
     }
