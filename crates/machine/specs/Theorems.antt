@@ -223,7 +223,8 @@ NeverTwice =
     (s : State) (x y : Call) (between : List Call) (c : Channel) → Gets (Gives c) (turn s x)
     → Gets (Gives c) (turn (after (turn s x .state) between) y) → ⊥
 
--- what asks for a channel is given one, in every state; once all are given it draws 0x7F, and nothing changes
+-- what asks for a channel, with buffers that are long enough, is given one in every state; once all are given it draws 0x7F, and nothing
+-- changes
 abbrev pub GivenUntilFull : Type 0
 GivenUntilFull =
     (s : State) (m p : List ℕ) (space : ℕ) → inOrder s ≡ true → lent (packet p space) (length m) ≡ 0 → asksForOne p ≡ true
