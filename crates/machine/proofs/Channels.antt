@@ -10,7 +10,7 @@ use lib.Dec.{leb}
 use borrow.Author.Tests.{eqb-true, le-leb, lt-leb}
 use Rattle.wire.specs.declared.Channel.{Channel}
 use Rattle.wire.specs.Packet.{channelOf, opens, commandOf, lengthOf, errorOn, initReply}
-use Rattle.wire.proofs.Replies.{init-command, init-on, init-channel}
+use Rattle.wire.proofs.Sent.{init-command, init-on, init-channel}
 use Rattle.state.specs.declared.State.{State}
 use Rattle.state.specs.Table.{_⇒_else_}
 use Rattle.state.specs.Order.{channels, inOrder}

@@ -107,11 +107,11 @@ module _ (s : State) (c : Channel) (command n : ℕ) (src m : List ℕ) (p : ℕ
   unfolding packetRows opening openingRows standingOf carriedOut _⇒_else_
   first-row =
       let b = q .packet 0 (at-least-1 n) in
-      let channel = reads-channel c command n 0 src (p 0) b (q .bytes) fits in
-      let named = reads-command c command n src (p 0) b (q .bytes) in
-      let sized = reads-length c command n src (p 0) b (q .bytes) (omega (arith, size)) in
+      let channel = reads-channel c command n 0 src (p 0) b fits in
+      let named = reads-command c command n src (p 0) b in
+      let sized = reads-length c command n src (p 0) b (omega (arith, size)) in
       rw (
-        reads-opening c command n src (p 0) b (q .bytes),
+        reads-opening c command n src (p 0) b,
         channel,
         named,
         sized,
@@ -133,10 +133,10 @@ module _ (s : State) (c : Channel) (command n : ℕ) (src m : List ℕ) (p : ℕ
       let b = q .packet (suc i) h in
       let few : i < 128 = omega (arith, at-most-129 n size) in
       rw (
-        reads-continuation c command n i src (p (suc i)) b (q .bytes) few,
-        reads-channel c command n (suc i) src (p (suc i)) b (q .bytes) fits,
+        reads-continuation c command n i src (p (suc i)) b few,
+        reads-channel c command n (suc i) src (p (suc i)) b fits,
         eq-eqb (c .0) (c .0) refl,
-        reads-number c command n i src (p (suc i)) b (q .bytes),
+        reads-number c command n i src (p (suc i)) b,
         eq-eqb (i + 1) (suc i) (add-one i),
       )
 

@@ -11,7 +11,7 @@ use Rattle.wire.specs.declared.Channel.{Channel}
 use Rattle.wire.specs.Packet.{packetSize, init, error, channelOf, commandOf, packetOf, errorOn, initReply}
 use Rattle.wire.proofs.Packets.{at-most-129}
 use Rattle.wire.proofs.Readings.{padded}
-use Rattle.wire.proofs.Replies.{sent-channel, sent-command, sent-number, error-code, init-command}
+use Rattle.wire.proofs.Sent.{sent-channel, sent-command, sent-no-command, error-code, init-command}
 use Rattle.state.specs.declared.State.{State}
 use Rattle.state.specs.Order.{channels, known, inOrder}
 use Rattle.state.proofs.Ordered.{count-in-order, Message}
@@ -65,7 +65,7 @@ names-no-error : (s : State) (h : Channel) (command n k : ℕ) (m : List ℕ) �
 names-no-error s h command n zero m q i =
     eqb-false command error (starts-not command error (q .opens) refl refl) (sym (sent-command h command n m) ∙ i)
 names-no-error s h command n (suc k) m q i =
-    let j = sent-number h command n k m (omega (arith, q .more, at-most-129 n (q .size))) in
+    let j = sent-no-command h command n k m (omega (arith, q .more, at-most-129 n (q .size))) in
     omega arith
 
 -- ---- the replies

@@ -1,5 +1,5 @@
 -- What is read back from packets: a packet that agrees with one we would send, in the bytes that are used, is read as that one. Assumes nothing.
-use Prim.Native.Nat.{ℕ, zero, suc, _+_, _-_, _*_, _/_, _%_, _^_, _≤_, _<_}
+use Prim.Native.Nat.{ℕ, zero, suc, _+_, _-_, _^_, _≤_, _<_}
 use mathlib.Core.Path.{_≡_, refl, sym, ap, _∙_}
 use mathlib.Core.Bool.{true, false}
 use mathlib.Core.List.{List, [], _∷_, _++_}
@@ -7,12 +7,12 @@ use native.Mathlib.Nat.{le-refl, add-zero, zero-add, add-suc, suc-add}
 use native.Mathlib.Omega.{arith}
 use lib.ListN.{length, take, drop, replicate, length-append, length-replicate, length-take, length-drop}
 use lib.Seq.{take-at, drop-at, getD-take, take-add, take-take, length-take-le}
-use borrow.Author.Tests.{le-leb, lt-leb}
 use Rattle.wire.specs.declared.Channel.{Channel}
 use Rattle.wire.specs.Cutting.{begins, room, carries, cut, put}
 use Rattle.wire.specs.Packet.{packetSize, firstRoom, laterRoom, byte, packets, bytes4, bytes2, filled, packetOf, channelOf, opens, commandOf, lengthOf, numberOf}
 use Rattle.wire.specs.Roundtrip.{gathered, headerSize, used, Padded, Brings, packetsOf, payloadOf, putTogether, PutTogether}
 use Rattle.wire.proofs.Roundtrips.{roundtrip}
+use Rattle.wire.proofs.Sent.{sent-channel, sent-opening, sent-command, sent-length, sent-number, sent-continuation}
 
 -- ---- lengths
 
@@ -70,67 +70,67 @@ padded c command n k buffer =
     rw (packet-is c command n k buffer)
     (filled-length _ (used-at-most c command n k buffer), λ h. filled-zeros _ (used n k) (used-length c command n k buffer h))
 
--- ---- what a packet says
-
-pub bytes4-back : (n : ℕ) → n < 2 ^ 32 → ((n / 256 / 256 / 256 % 256 * 256 + n / 256 / 256 % 256) * 256 + n / 256 % 256) * 256 + n % 256 ≡ n
-bytes4-back n h = omega arith
+-- ---- a packet that brings part k
 
 five : (k : ℕ) → 4 < headerSize k
 unfolding headerSize
 five zero = omega arith
 five (suc k) = omega arith
 
-module _ (c : Channel) (command n k : ℕ) (src p : List ℕ) (b : Brings c command n k src p) (enough : n ≤ length src) where
-  front : take (used n k) p ≡ header c command n k ++ cut firstRoom laterRoom n k src
-  front = b .bytes ∙ rw (packet-is c command n k src) (filled-front _ (used n k) (used-length c command n k src enough))
-
-  -- the bytes of the header, and the payload
-  byte-is : (i : ℕ) → i < headerSize k → byte p i ≡ byte (header c command n k ++ cut firstRoom laterRoom n k src) i
-  byte-is i h = sym (getD-take (used n k) p i 0 (omega arith)) ∙ ap (λ (l : List ℕ). byte l i) front
-
-  payload-is : take (carries firstRoom laterRoom n k) (payloadOf k p) ≡ cut firstRoom laterRoom n k src
-  payload-is =
-      let l : length (take (headerSize k) p) ≡ headerSize k = length-take-le (headerSize k) p (omega (arith, used-fits n k, b .size)) in
-      sym (drop-at (take (headerSize k) p) (take (carries firstRoom laterRoom n k) (payloadOf k p)) (headerSize k) l)
-      ∙ ap (drop (headerSize k)) (sym (take-add (headerSize k) (carries firstRoom laterRoom n k) p) ∙ front)
-      ∙ drop-at (header c command n k) (cut firstRoom laterRoom n k src) (headerSize k) (header-length c command n k)
-
-  pub puts-its-part : (buffer : List ℕ)
-      → put firstRoom laterRoom n k (payloadOf k p) buffer ≡ put firstRoom laterRoom n k (cut firstRoom laterRoom n k src) buffer
-  unfolding put cut
-  puts-its-part buffer =
-      rw (payload-is, take-take (carries firstRoom laterRoom n k) (carries firstRoom laterRoom n k) (drop (begins firstRoom laterRoom k) src) (le-refl _))
+module _ (c : Channel) (command n k : ℕ) (src p : List ℕ) (b : Brings c command n k src p) where
+  -- its header is that of the packet we would send
+  byte-is : (i : ℕ) → i < headerSize k → byte p i ≡ byte (packetOf c command n k src) i
+  byte-is i h =
+      let l : i < used n k = omega arith in
+      sym (getD-take (used n k) p i 0 l) ∙ ap (λ (q : List ℕ). byte q i) (b .bytes) ∙ getD-take (used n k) (packetOf c command n k src) i 0 l
 
   pub reads-channel : c .0 < 2 ^ 32 → channelOf p ≡ c
-  unfolding channelOf header bytes4
+  unfolding channelOf
   reads-channel h =
       let e : 4 < headerSize k = five k in
-      rw (byte-is 0 (omega arith), byte-is 1 (omega arith), byte-is 2 (omega arith), byte-is 3 (omega arith))
-      (ap (λ (i : ℕ). let x : Channel = record { 0 = i } in x) (bytes4-back (c .0) h))
+      rw (byte-is 0 (omega arith), byte-is 1 (omega arith), byte-is 2 (omega arith), byte-is 3 (omega arith)) (sent-channel c command n k src h)
 
--- of the first packet
-module _ (c : Channel) (command n : ℕ) (src p : List ℕ) (b : Brings c command n 0 src p) (enough : n ≤ length src) where
+  -- its payload is that part of the message
+  module _ (enough : n ≤ length src) where
+    front : take (used n k) p ≡ header c command n k ++ cut firstRoom laterRoom n k src
+    front = b .bytes ∙ rw (packet-is c command n k src) (filled-front _ (used n k) (used-length c command n k src enough))
+
+    payload-is : take (carries firstRoom laterRoom n k) (payloadOf k p) ≡ cut firstRoom laterRoom n k src
+    payload-is =
+        let l : length (take (headerSize k) p) ≡ headerSize k = length-take-le (headerSize k) p (omega (arith, used-fits n k, b .size)) in
+        sym (drop-at (take (headerSize k) p) (take (carries firstRoom laterRoom n k) (payloadOf k p)) (headerSize k) l)
+        ∙ ap (drop (headerSize k)) (sym (take-add (headerSize k) (carries firstRoom laterRoom n k) p) ∙ front)
+        ∙ drop-at (header c command n k) (cut firstRoom laterRoom n k src) (headerSize k) (header-length c command n k)
+
+    pub puts-its-part : (buffer : List ℕ)
+        → put firstRoom laterRoom n k (payloadOf k p) buffer ≡ put firstRoom laterRoom n k (cut firstRoom laterRoom n k src) buffer
+    unfolding put cut
+    puts-its-part buffer =
+        rw (payload-is, take-take (carries firstRoom laterRoom n k) (carries firstRoom laterRoom n k) (drop (begins firstRoom laterRoom k) src) (le-refl _))
+
+-- the first
+module _ (c : Channel) (command n : ℕ) (src p : List ℕ) (b : Brings c command n 0 src p) where
   pub reads-opening : opens p ≡ true
-  unfolding opens header said headerSize bytes4
-  reads-opening = rw (byte-is c command n 0 src p b enough 4 (omega arith)) (le-leb 128 (128 + command) (omega arith))
+  unfolding opens headerSize
+  reads-opening = rw (byte-is c command n 0 src p b 4 (omega arith)) (sent-opening c command n src)
 
   pub reads-command : commandOf p ≡ command
-  unfolding commandOf header said headerSize bytes4
-  reads-command = rw (byte-is c command n 0 src p b enough 4 (omega arith)) (omega arith)
+  unfolding commandOf headerSize
+  reads-command = rw (byte-is c command n 0 src p b 4 (omega arith)) (sent-command c command n src)
 
   pub reads-length : n < 2 ^ 16 → lengthOf p ≡ n
-  unfolding lengthOf header said headerSize bytes4 bytes2
-  reads-length h = rw (byte-is c command n 0 src p b enough 5 (omega arith), byte-is c command n 0 src p b enough 6 (omega arith)) (omega arith)
+  unfolding lengthOf headerSize
+  reads-length h = rw (byte-is c command n 0 src p b 5 (omega arith), byte-is c command n 0 src p b 6 (omega arith)) (sent-length c command n src h)
 
--- of a later one
-module _ (c : Channel) (command n k : ℕ) (src p : List ℕ) (b : Brings c command n (suc k) src p) (enough : n ≤ length src) where
+-- a later one
+module _ (c : Channel) (command n k : ℕ) (src p : List ℕ) (b : Brings c command n (suc k) src p) where
   pub reads-number : numberOf p ≡ k
-  unfolding numberOf header said headerSize bytes4
-  reads-number = rw (byte-is c command n (suc k) src p b enough 4 (omega arith))
+  unfolding numberOf headerSize
+  reads-number = rw (byte-is c command n (suc k) src p b 4 (omega arith)) (sent-number c command n k src)
 
   pub reads-continuation : k < 128 → opens p ≡ false
-  unfolding opens numberOf
-  reads-continuation h = rw reads-number (lt-leb 128 k h)
+  unfolding opens headerSize
+  reads-continuation h = rw (byte-is c command n (suc k) src p b 4 (omega arith)) (sent-continuation c command n k src h)
 
 -- ---- the packets we send
 
