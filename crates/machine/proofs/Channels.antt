@@ -12,12 +12,12 @@ use Rattle.wire.specs.declared.Channel.{Channel}
 use Rattle.wire.specs.Packet.{channelOf, opens, commandOf, lengthOf, errorOn, initReply}
 use Rattle.wire.proofs.Sent.{init-command, init-on, init-channel}
 use Rattle.state.specs.declared.State.{State}
-use Rattle.state.specs.Table.{_⇒_else_}
+use Rattle.state.specs.Table.{_⇒_else_, all-head, all-tail}
 use Rattle.state.specs.Order.{channels, inOrder}
 use Rattle.state.proofs.Ordered.{count-in-order}
 use Rattle.table.specs.declared.Verdict.the-variants.{Error, NextChannel}
 use Rattle.table.specs.Opening.{broadcast, isBroadcast, standingOf}
-use Rattle.table.proofs.Verdicts.{first, second, asks-broadcast, asked-row}
+use Rattle.table.proofs.Verdicts.{asked-row}
 use Rattle.machine.specs.Machine.{Event, packet, Turn, says, at, carriedOut, opening, packetRows, lent, rows, step}
 use Rattle.machine.specs.Run.{Call, turn, after, asksForOne, Gives, Errs, Gets}
 use Rattle.machine.specs.Theorems.{ChannelGiven, ChannelsCount, NextGiven, NeverReserved, NeverTwice, GivenUntilFull, OnlyWhenFull}
@@ -105,14 +105,14 @@ only-when-full s m e x = full s m e (shape s m e) x
 
 module _ (s : State) (m p : List ℕ) (space : ℕ) (o : inOrder s ≡ true) (l : lent (packet p space) (length m) ≡ 0) (a : asksForOne p ≡ true) where
   on-broadcast : isBroadcast (channelOf p) ≡ true
-  on-broadcast = asks-broadcast (channelOf p) (commandOf p) (lengthOf p) (second (opens p) _ a)
+  on-broadcast = all-head _ _ (all-tail _ _ a)
 
   asked : step s m (packet p space) ≡ carriedOut (leb channels (s .given) ⇒ Error 0x7F else NextChannel) s m p
   unfolding rows packetRows opening _⇒_else_
   asked =
       let f = standingOf (s .work .phase) (channelOf p) in
       step-rows s m (packet p space) o l
-      ∙ rw (first (opens p) _ a, asked-row (s .given) f (channelOf p) (commandOf p) (lengthOf p) (second (opens p) _ a))
+      ∙ rw (all-head (opens p) _ a, asked-row (s .given) f (channelOf p) (commandOf p) (lengthOf p) (all-tail _ _ a))
 
   gives-it : s .given < channels → Gives (next s) (initReply p (next s))
   gives-it g =

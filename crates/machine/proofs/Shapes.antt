@@ -13,14 +13,14 @@ use Rattle.state.specs.declared.Phase.{Phase}
 use Rattle.state.specs.declared.Phase.the-variants.{Idle, Gathering, Waiting, Answering}
 use Rattle.state.specs.declared.Work.{Work}
 use Rattle.state.specs.declared.State.{State}
-use Rattle.state.specs.Table.{cases, row}
+use Rattle.state.specs.Table.{cases, row, all-cons}
 use Rattle.state.specs.Order.{channels, inOrder}
 use Rattle.state.specs.Answers.{within}
 use Rattle.state.proofs.Ordered.{count-in-order, answering-parts}
 use Rattle.command.specs.declared.Checked.{Checked}
 use Rattle.command.specs.declared.Checked.the-variants as checked
 use Rattle.table.specs.Opening.{standingOf}
-use Rattle.table.proofs.Verdicts.{both, Grounds, grounds}
+use Rattle.table.proofs.Verdicts.{Grounds, grounds}
 use Rattle.table.specs.declared.Verdict.{Verdict}
 use Rattle.table.specs.declared.Verdict.the-variants.{Nothing, Error, Dropped, NextChannel, ThisChannel, Cancelled, Opened}
 use Rattle.machine.specs.Machine.{Event, packet, time, deliver, fetch, Turn, refuses, quiet, says, handed, at, beside, judged, completed, taken, carriedOut, opening, continuing, packetRows, timeRows, deliverRows, fetchRows, lent, rows, step}
@@ -82,7 +82,7 @@ module _ (s : State) (m : List ℕ) (e : Event) where
 
       full : (code : ℕ) → Why (Error code) → code ≡ 0x7F → Full s e
       full code g c =
-          (p, space, i, both (opens p) _ x (g c .0), omega (arith, leb-true channels (s .given) (g c .1), count-in-order s o))
+          (p, space, i, all-cons _ _ x (g c .0), omega (arith, leb-true channels (s .given) (g c .1), count-in-order s o))
 
       carried-shape : (v : Verdict) → Why v → Shape s m e (carriedOut v s m p)
       unfolding carriedOut
@@ -90,7 +90,7 @@ module _ (s : State) (m : List ℕ) (e : Event) where
       carried-shape (Error code) g = says-error (channelOf p) code (s .work .phase) (full code g)
       carried-shape (Dropped code) g = says-error (channelOf p) code Idle (full code g)
       carried-shape NextChannel g =
-          channel p space i (next-made s e room p (both (opens p) _ x (g .0)) l (leb-false channels (s .given) (g .1)))
+          channel p space i (next-made s e room p (all-cons _ _ x (g .0)) l (leb-false channels (s .given) (g .1)))
       carried-shape ThisChannel g = reply _ Idle (init-plain s e room p o g)
       carried-shape Cancelled g = silence _ _
       carried-shape Opened g = taken-shape _ _ _ _ _ _

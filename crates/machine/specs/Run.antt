@@ -1,11 +1,11 @@
 -- Sequences of calls: the words of what is proved of them.
 use Prim.Native.Nat.{ℕ, zero, suc, _+_}
 use mathlib.Core.Path.{_≡_}
-use mathlib.Core.Bool.{Bool, true, false, not, _&&_}
+use mathlib.Core.Bool.{Bool, true, false, not}
 use mathlib.Core.Option.{Option, none, some}
 use mathlib.Core.List.{List, [], _∷_}
 use lib.ListN.{drop}
-use lib.Dec.{ltb}
+use lib.Dec.{ltb, eqb}
 use Rattle.wire.specs.declared.Channel.{Channel}
 use Rattle.wire.specs.Packet.{packetSize, longest, init, error, byte, channelOf, opens, commandOf, lengthOf}
 use Rattle.state.specs.declared.Phase.{Phase}
@@ -13,9 +13,9 @@ use Rattle.state.specs.declared.Phase.the-variants.{Idle, Gathering, Waiting, A
 use Rattle.state.specs.declared.State.{State}
 use Rattle.state.specs.declared.Answer.{Answer}
 use Rattle.state.specs.declared.Answer.the-variants.{Refused, Quiet, Replied, Handed}
-use Rattle.state.specs.Table.{_⇒_else_}
+use Rattle.state.specs.Table.{_⇒_else_, all}
 use Rattle.state.specs.Order.{inOrder}
-use Rattle.table.specs.Opening.{isBroadcast, asks}
+use Rattle.table.specs.Opening.{isBroadcast}
 use Rattle.machine.specs.Machine.{Event, packet, time, deliver, fetch, Turn, step}
 
 -- ---- calls, each with the message buffer that its caller lends: between calls the buffer is the caller's
@@ -148,9 +148,9 @@ requestsIn s (c ∷ cs) = requests (turn s c .answer) + requestsIn (turn s c .st
 
 -- ---- channels
 
--- a packet that asks for a channel
+-- a packet that asks for a channel: a broadcast INIT with the 8 bytes of a nonce
 abbrev pub asksForOne : List ℕ → Bool
-asksForOne p = opens p && asks (channelOf p) (commandOf p) (lengthOf p)
+asksForOne p = all (opens p ∷ isBroadcast (channelOf p) ∷ eqb (commandOf p) init ∷ eqb (lengthOf p) 8 ∷ [])
 
 -- a reply that gives channel c, as a host reads it: an INIT reply on broadcast, with c behind the header's 7 bytes and the nonce's 8
 pub record Gives (c : Channel) (r : List ℕ) : Type 0 where

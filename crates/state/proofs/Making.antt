@@ -12,7 +12,7 @@ use Rattle.state.specs.declared.Phase.{Phase}
 use Rattle.state.specs.declared.Phase.the-variants.{Idle, Gathering, Waiting, Answering}
 use Rattle.state.specs.declared.Work.{Work}
 use Rattle.state.specs.declared.State.{State}
-use Rattle.state.specs.Table.{_⇒_else_, all, cases, all-head, all-tail}
+use Rattle.state.specs.Table.{_⇒_else_, all, cases, all-head, all-cons, all-tail}
 use Rattle.state.specs.Order.{channels, gatheringTime, known, starts, toCore, messageInOrder, phaseInOrder, inOrder}
 use Rattle.state.proofs.Ordered.{phase-in-order, Message, Gathered}
 
@@ -87,9 +87,7 @@ known-more given c k =
 
 -- a list of tests with another first one
 first-test : (b b′ : Bool) (bs : List Bool) → (b ≡ true → b′ ≡ true) → all (b ∷ bs) ≡ true → all (b′ ∷ bs) ≡ true
-unfolding all _⇒_else_
-first-test true b′ bs f o = rw (f refl) o
-first-test false b′ bs f o = absurd (true≢false (sym o))
+first-test b b′ bs f o = all-cons b′ bs (f (all-head b bs o)) (all-tail b bs o)
 
 message-more : (given : ℕ) (h : Channel) (command n done : ℕ) → messageInOrder given h command n done ≡ true
     → messageInOrder (given + 1) h command n done ≡ true

@@ -38,6 +38,10 @@ unfolding all _⇒_else_
 all-head true bs e = refl
 all-head false bs e = e
 
+pub all-cons : (b : Bool) (bs : List Bool) → b ≡ true → all bs ≡ true → all (b ∷ bs) ≡ true
+unfolding all _⇒_else_
+all-cons b bs e f = rw (e, f)
+
 pub all-tail : (b : Bool) (bs : List Bool) → all (b ∷ bs) ≡ true → all bs ≡ true
 unfolding all _⇒_else_
 all-tail true bs e = e

@@ -2,6 +2,7 @@
 use Prim.Native.Nat.{ℕ, _≤_, _<_}
 use mathlib.Core.Path.{_≡_, refl, sym}
 use mathlib.Core.Bool.{Bool, true, false, not, _&&_, true≢false}
+use mathlib.Core.List.{[], _∷_}
 use native.Mathlib.Omega.{arith}
 use lib.Dec.{leb, ltb, eqb}
 use borrow.Author.Tests.{not-false, ltb-false}
@@ -12,53 +13,50 @@ use Rattle.state.specs.Order.{channels, known, starts}
 use Rattle.table.specs.declared.Standing.{Standing}
 use Rattle.table.specs.declared.Verdict.{Verdict}
 use Rattle.table.specs.declared.Verdict.the-variants.{Nothing, Error, Dropped, NextChannel, ThisChannel, Cancelled, Opened}
-use Rattle.table.specs.Opening.{isBroadcast, isOther, isWaiting, isHolder, badLength, openingRows, asks}
+use Rattle.table.specs.Opening.{isBroadcast, isOther, isWaiting, isHolder, badLength, openingRows}
 
--- of a test `a && b`: both hold, so it does; it holds, so both do; it fails where a holds, so b fails
-pub both : (a b : Bool) → a ≡ true → b ≡ true → a && b ≡ true
-both a b x y = rw (x, y)
-
-pub first : (a b : Bool) → a && b ≡ true → a ≡ true
+-- of a test `a && b`: it holds, so both do; it fails where a holds, so b fails
+first : (a b : Bool) → a && b ≡ true → a ≡ true
 first true b e = refl
 first false b e = e
 
-pub second : (a b : Bool) → a && b ≡ true → b ≡ true
+second : (a b : Bool) → a && b ≡ true → b ≡ true
 second true b e = e
 second false b e = absurd (true≢false (sym e))
 
 other-half : (a b : Bool) → a ≡ true → a && b ≡ false → b ≡ false
 other-half a b x e = rw x at e
 
--- a broadcast packet that is past the first two rows asks for a channel
+-- what asks for a channel: a broadcast INIT with the 8 bytes of a nonce
+abbrev pub Asks : Channel → ℕ → ℕ → Type 0
+Asks c command n = all (isBroadcast c ∷ eqb command init ∷ eqb n 8 ∷ []) ≡ true
+
+-- a broadcast packet that is past the first two rows does
 past-two : (c : Channel) (command n : ℕ) → isBroadcast c ≡ true → isBroadcast c && not (eqb command init) ≡ false
-    → isBroadcast c && not (eqb n 8) ≡ false → asks c command n ≡ true
-unfolding asks all _⇒_else_
+    → isBroadcast c && not (eqb n 8) ≡ false → Asks c command n
+unfolding all _⇒_else_
 past-two c command n b i l =
     rw (b, not-false (eqb command init) (other-half (isBroadcast c) _ b i), not-false (eqb n 8) (other-half (isBroadcast c) _ b l))
 
--- the row of what asks for a channel
-pub asked-row : (given : ℕ) (at : Standing) (c : Channel) (command n : ℕ) → asks c command n ≡ true
+-- and meets the row of 0x7F or the row behind it
+pub asked-row : (given : ℕ) (at : Standing) (c : Channel) (command n : ℕ) → Asks c command n
     → openingRows given at c command n ≡ (leb channels given ⇒ Error 0x7F else NextChannel)
-unfolding asks openingRows _⇒_else_
+unfolding openingRows _⇒_else_
 asked-row given at c command n e =
     let t = all-tail _ _ e in
     rw (all-head (isBroadcast c) _ e, all-head (eqb command init) _ t, all-head (eqb n 8) _ (all-tail _ _ t))
 
-pub asks-broadcast : (c : Channel) (command n : ℕ) → asks c command n ≡ true → isBroadcast c ≡ true
-unfolding asks
-asks-broadcast c command n e = all-head _ _ e
-
 module _ (given : ℕ) (at : Standing) (c : Channel) (command n : ℕ) where
   -- 0x7F is for what asks for a channel when all are given
   abbrev pub AllGiven : ℕ → Type 0
-  AllGiven code = code ≡ 0x7F → (asks c command n ≡ true) × (leb channels given ≡ true)
+  AllGiven code = code ≡ 0x7F → Asks c command n × (leb channels given ≡ true)
 
   -- what is known where the table gives a verdict
   abbrev pub Grounds : Verdict → Type 0
   Grounds Nothing = Unit {0}
   Grounds (Error code) = AllGiven code
   Grounds (Dropped code) = AllGiven code
-  Grounds NextChannel = (asks c command n ≡ true) × (leb channels given ≡ false)
+  Grounds NextChannel = Asks c command n × (leb channels given ≡ false)
   Grounds ThisChannel = known given c ≡ true
   Grounds Cancelled = (known given c ≡ true) × (isWaiting at ≡ true)
   Grounds Opened =
@@ -102,7 +100,7 @@ verdict-cases P given at c command n nothing error dropped next this cancelled o
     by Nothing g = nothing
     by (Error code) g = error code
     by (Dropped code) g = dropped code
-    by NextChannel g = next (asks-broadcast c command n (g .0)) (g .1)
+    by NextChannel g = next (all-head _ _ (g .0)) (g .1)
     by ThisChannel g = this
     by Cancelled g = cancelled (g .0) (g .1)
     by Opened g = opened (g .0) (g .1) (g .2) (g .3) (g .4)

@@ -1,13 +1,12 @@
 -- Document 01, "What an opening packet gets, in this order".
 use Prim.Native.Nat.{ℕ}
 use mathlib.Core.Bool.{Bool, true, false, not, _&&_, _||_}
-use mathlib.Core.List.{[], _∷_}
 use lib.Dec.{ltb, leb, eqb}
 use Rattle.wire.specs.declared.Channel.{Channel}
 use Rattle.wire.specs.Packet.{longest, init, cancel}
 use Rattle.state.specs.declared.Phase.{Phase}
 use Rattle.state.specs.declared.Phase.the-variants.{Idle, Gathering, Waiting, Answering}
-use Rattle.state.specs.Table.{_⇒_else_, all}
+use Rattle.state.specs.Table.{_⇒_else_}
 use Rattle.state.specs.Order.{channels, known, starts, toCore}
 use Rattle.table.specs.declared.Standing.{Standing}
 use Rattle.table.specs.declared.Standing.the-variants.{Free, Other, Gathers, Waits, Answers}
@@ -90,7 +89,3 @@ openingRows given at c command n =
     not (starts command) ⇒ Dropped 0x01 else
     badLength command n ⇒ Dropped 0x03 else
     Opened
-
--- what asks for a channel: a broadcast INIT with the 8 bytes of a nonce
-unfoldable pub asks : Channel → ℕ → ℕ → Bool
-asks c command n = all (isBroadcast c ∷ eqb command init ∷ eqb n 8 ∷ [])
