@@ -6,6 +6,8 @@
 #include <stdio.h>
 #include <string.h>
 
+#include <fido.h>
+
 enum { HASH = 32, USER_ID = 16, CREDENTIAL_ID = 64 };
 
 /* So many listed credentials and so long a name make the longest message there is, 7,609 bytes in 129 packets. */
@@ -16,11 +18,19 @@ static const unsigned char credential_id[CREDENTIAL_ID] = "a credential that the
 static const char saw[] = "saw.example";
 
 static fido_dev_t *device;
+static uint8_t flags; /* of the INIT reply: libfido2 changes its own when it is told to speak U2F */
 static fido_cbor_info_t *info;
+static unsigned char registered_id[CREDENTIAL_ID]; /* the key handle that libfido2 read in the registration */
+static size_t registered_id_length;
 
 static int open_device(void)
 {
-    return fido_dev_open(device, "the bench");
+    int result = fido_dev_open(device, "the bench");
+
+    flags = fido_dev_flags(device);
+    if (result == FIDO_OK && flags != FIDO_CAP_CBOR) /* without FIDO_CAP_NMSG, which would be: no MSG */
+        fail("libfido2 reads the flags %02x, not 04", flags);
+    return result;
 }
 
 static int get_info(void)
@@ -52,6 +62,10 @@ static int make_credential(int algorithm, size_t name_length, int listed)
     for (int i = 0; i < listed; i++)
         fido_cred_exclude(credential, credential_id, CREDENTIAL_ID);
     result = fido_dev_make_cred(device, credential, NULL);
+    if (result == FIDO_OK && fido_cred_id_len(credential) <= CREDENTIAL_ID) {
+        registered_id_length = fido_cred_id_len(credential);
+        memcpy(registered_id, fido_cred_id_ptr(credential), registered_id_length);
+    }
     fido_cred_free(&credential);
     return result;
 }
@@ -71,22 +85,33 @@ static int make_with_rs256(void)
     return make_credential(COSE_RS256, 1, 0);
 }
 
-static int get_assertion(void)
+static int assert_with(const unsigned char *id, size_t id_length)
 {
     fido_assert_t *assertion = fido_assert_new();
     int result;
 
     fido_assert_set_clientdata_hash(assertion, client_data_hash, HASH);
     fido_assert_set_rp(assertion, saw);
-    fido_assert_allow_cred(assertion, credential_id, CREDENTIAL_ID);
+    fido_assert_allow_cred(assertion, id, id_length);
     result = fido_dev_get_assert(device, assertion, NULL);
     fido_assert_free(&assertion);
     return result;
 }
 
+static int get_assertion(void)
+{
+    return assert_with(credential_id, CREDENTIAL_ID);
+}
+
+static void cancel(void)
+{
+    if (fido_dev_cancel(device) != FIDO_OK)
+        fail("libfido2 cannot send its CANCEL");
+}
+
 static int cancel_assertion(void)
 {
-    usb_cancel_next();
+    usb_cancel_next(cancel);
     return get_assertion();
 }
 
@@ -95,8 +120,20 @@ static int reset(void)
     return fido_dev_reset(device);
 }
 
+/* From here on libfido2 takes the key for an old token, and speaks U2F. */
+static int u2f_register(void)
+{
+    fido_dev_force_u2f(device);
+    return make_with_es256();
+}
+
+static int u2f_authenticate(void)
+{
+    return assert_with(registered_id, registered_id_length);
+}
+
 /* The core answers what the key hands on with a ticket; the key itself answers the rest. */
-static const struct exchange {
+static const struct {
     const char *name;
     int (*run)(void);
     bool handed_on;
@@ -111,25 +148,11 @@ static const struct exchange {
     { "Reset", reset, false, FIDO_ERR_INVALID_COMMAND },
     { "GetAssertion, then CANCEL", cancel_assertion, true, FIDO_ERR_KEEPALIVE_CANCEL },
     { "GetInfo, a late delivery first", get_info, true, FIDO_OK },
+    { "U2F: REGISTER until touched", u2f_register, true, FIDO_OK },
+    { "U2F: AUTHENTICATE until touched", u2f_authenticate, true, FIDO_OK },
+    { "U2F: AUTHENTICATE, other handle", get_assertion, true, FIDO_ERR_NO_CREDENTIALS },
 };
 enum { EXCHANGES = sizeof exchanges / sizeof exchanges[0] };
-
-static void play(const struct exchange *exchange)
-{
-    int result = exchange->run();
-    struct traffic traffic = usb_traffic();
-
-    printf("  %-31s %9zu %7u %8zu %7u  ", exchange->name, traffic.bytes_out, traffic.packets_out, traffic.bytes_in, traffic.packets_in);
-    if (traffic.ticket != 0)
-        printf("%6" PRIu32, traffic.ticket);
-    else
-        printf("%6s", "none");
-    printf("  %s\n", fido_strerr(result));
-    if (result != exchange->result)
-        fail("libfido2 was to report %s", fido_strerr(exchange->result));
-    if ((traffic.ticket != 0) != exchange->handed_on)
-        fail("the key was %sto hand this on to the core", exchange->handed_on ? "" : "not ");
-}
 
 static void list(const char *what, char **words, size_t count)
 {
@@ -141,12 +164,10 @@ static void list(const char *what, char **words, size_t count)
 
 static void show_device(void)
 {
-    uint8_t flags = fido_dev_flags(device);
     char aaguid[2 * sizeof core_aaguid + 1];
 
-    printf("  protocol %u, device %u.%u.%u, flags %02x (%s, %s)\n", fido_dev_protocol(device), fido_dev_major(device),
-           fido_dev_minor(device), fido_dev_build(device), flags, flags & FIDO_CAP_CBOR ? "CBOR" : "no CBOR",
-           flags & FIDO_CAP_NMSG ? "no MSG" : "MSG");
+    printf("  protocol %u, device %u.%u.%u, flags %02x (CBOR and MSG)\n", fido_dev_protocol(device), fido_dev_major(device),
+           fido_dev_minor(device), fido_dev_build(device), flags);
     list("versions", fido_cbor_info_versions_ptr(info), fido_cbor_info_versions_len(info));
     list("extensions", fido_cbor_info_extensions_ptr(info), fido_cbor_info_extensions_len(info));
     write_hex(aaguid, fido_cbor_info_aaguid_ptr(info), fido_cbor_info_aaguid_len(info));
@@ -161,10 +182,16 @@ static void show_device(void)
 
 static void play_all(char *const command[], bool stranger)
 {
-    device = usb_device(command, stranger);
-    printf("  %-31s bytes out packets bytes in packets  ticket  libfido2 reports\n", "");
-    for (int i = 0; i < EXCHANGES; i++)
-        play(&exchanges[i]);
+    static const fido_dev_io_t io = { usb_open, usb_close, usb_read, usb_write };
+
+    if ((device = fido_dev_new()) == NULL || fido_dev_set_io_functions(device, &io) != FIDO_OK)
+        fail("libfido2 does not take the I/O functions");
+    usb_begin("libfido2", command, stranger);
+    for (int i = 0; i < EXCHANGES; i++) {
+        int result = exchanges[i].run();
+
+        usb_exchange(exchanges[i].name, exchanges[i].handed_on, fido_strerr(result), fido_strerr(exchanges[i].result));
+    }
     if (!stranger) {
         puts("What libfido2 read of the key and its core:");
         show_device();
@@ -178,19 +205,13 @@ int main(int argc, char **argv)
 {
     static char *bench[] = { "./bench", NULL };
     char *const *command = argc > 1 ? argv + 1 : bench;
-    unsigned long knocks;
 
     fido_init(0);
-    puts("libfido2 alone with the key:");
     play_all(command, false);
-    puts("The same while a stranger knocks between all packets:");
     play_all(command, true);
-    puts("What the stranger drew:");
-    knocks = stranger_report();
     puts("What the core's late deliveries drew:");
     core_report();
-    printf("libfido2's %zu packets with the stranger are those without, byte for byte.\n", usb_compare());
-    printf("interop: %d exchanges, %lu knocks, all answered as expected\n", 2 * EXCHANGES, knocks);
+    usb_report();
     fido_cbor_info_free(&info);
     return 0;
 }

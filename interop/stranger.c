@@ -1,5 +1,5 @@
-/* The stranger: a second client whose packets fall between all of libfido2's. While libfido2 holds the key, document 01 allows it an
-   error or a channel and nothing else; while the key is free, a PING of its own is served. */
+/* The stranger: a second client whose packets fall between all of the first one's. While that holds the key, document 01 allows
+   it an error or a channel and nothing else; while the key is free, a PING of its own is served. */
 
 #include "interop.h"
 
@@ -14,7 +14,7 @@ enum { NONCE = 8, CHANNEL_AT = OPENING_AT + NONCE };
 /* What the stranger's payloads are full of. */
 enum { FILLER = 0xee };
 
-enum knock { SERVED, BUSY_PING, BUSY_CBOR, BUSY_INIT, CANCELS, CONTINUES, UNKNOWN, ON_BROADCAST, GREETED, KNOCKS };
+enum knock { SERVED, BUSY_PING, BUSY_MSG, BUSY_CBOR, BUSY_INIT, CANCELS, CONTINUES, UNKNOWN, ON_BROADCAST, GREETED, KNOCKS };
 
 static struct {
     const char *knock, *draws;
@@ -22,10 +22,11 @@ static struct {
 } tally[KNOCKS] = {
     [SERVED] = { "PING of two packets while the key is free", "its own bytes back", 0 },
     [BUSY_PING] = { "PING opening on its channel", "busy, 06", 0 },
+    [BUSY_MSG] = { "MSG opening on its channel", "busy, 06", 0 },
     [BUSY_CBOR] = { "CBOR opening on its channel", "busy, 06", 0 },
     [BUSY_INIT] = { "INIT on its channel", "busy, 06", 0 },
     [CANCELS] = { "CANCEL on its channel", "nothing", 0 },
-    [CONTINUES] = { "continuation with libfido2's number", "nothing", 0 },
+    [CONTINUES] = { "continuation with the client's number", "nothing", 0 },
     [UNKNOWN] = { "PING opening on a channel not yet given", "invalid channel, 0b", 0 },
     [ON_BROADCAST] = { "PING opening on broadcast", "invalid channel, 0b", 0 },
     [GREETED] = { "INIT on broadcast", "a new channel", 0 },
@@ -83,7 +84,7 @@ static void try_opening(enum knock knock, uint32_t on, uint8_t command, uint8_t 
     try(knock, packet, error == 0 ? NULL : reply);
 }
 
-/* The reply must be the greeting that libfido2 drew, but for the nonce and the channel, which is the next one. */
+/* The reply must be the greeting that the client drew, but for the nonce and the channel, which is the next one. */
 static void greet(void)
 {
     uint8_t packet[PACKET];
@@ -122,6 +123,7 @@ void stranger_knocks(bool key_is_held, uint8_t number)
 
     if (key_is_held) {
         try_opening(BUSY_PING, channel, PING, CHANNEL_BUSY);
+        try_opening(BUSY_MSG, channel, MSG, CHANNEL_BUSY);
         try_opening(BUSY_CBOR, channel, CBOR, CHANNEL_BUSY);
         try_opening(BUSY_INIT, channel, INIT, CHANNEL_BUSY);
     } else {

@@ -1,4 +1,4 @@
-/* libfido2's end of the bus: its reports, one packet each, become packet and fetch calls of the key. */
+/* The client's end of the bus: its reports, one packet each, become packet and fetch calls of the key. */
 
 #include "interop.h"
 
@@ -9,21 +9,27 @@
 /* More packets than one run takes. */
 enum { MOST_PACKETS = 1000 };
 
-static fido_dev_t *device;
+static const char *client;
 static char *const *bench_command;
-static bool disturbed;     /* a stranger is to come as soon as libfido2 has its channel */
+static bool disturbed;       /* a stranger is to come as soon as the client has its channel */
 static bool stranger_came;
-static bool cancel_next;   /* libfido2 is to cancel its next request */
+static void (*cancel)(void); /* by which the client is to cancel its next request; NULL: it is not to */
 
-static struct traffic traffic;
+static struct {
+    unsigned packets_out, packets_in;
+    size_t bytes_out, bytes_in;
+    uint32_t ticket; /* 0: the key handed nothing on */
+} traffic;
+static unsigned exchanges;
+
 static struct message request, reply;
 static const struct message *delivered; /* by the core for this request */
-static bool holds;                      /* libfido2's request is on its way, or its reply not yet read to the end */
-static uint8_t number;                  /* of the next continuation on libfido2's channel */
-static uint8_t drawn[PACKET];           /* the reply packet that libfido2's last packet drew */
-static bool has_drawn;                  /* and libfido2 has not read it yet */
+static bool holds;                      /* the client's request is on its way, or its reply not yet read to the end */
+static uint8_t number;                  /* of the next continuation on the client's channel */
+static uint8_t drawn[PACKET];           /* the reply packet that the client's last packet drew */
+static bool has_drawn;                  /* and the client has not read it yet */
 
-/* Every packet on libfido2's channel: of the run without the stranger, and of the run with it. */
+/* Every packet on the client's channel: of the run without the stranger, and of the run with it. */
 static uint8_t passed[2][MOST_PACKETS][PACKET];
 static size_t passed_count[2];
 
@@ -68,44 +74,58 @@ static void between_packets(void)
         stranger_knocks(holds, number);
 }
 
-static void *usb_open(const char *path)
+void usb_begin(const char *name, char *const command[], bool stranger)
+{
+    client = name;
+    bench_command = command;
+    disturbed = stranger;
+    if (stranger)
+        puts("The same while a stranger knocks between all packets:");
+    else
+        printf("%s alone with the key:\n", client);
+    printf("  %-31s bytes out packets bytes in packets  ticket  %s reports\n", "", client);
+}
+
+void *usb_open(const char *path)
 {
     (void)path;
     bench_start(bench_command);
     holds = has_drawn = stranger_came = false;
-    return &traffic; /* there is one bus, so any handle will do */
+    return &traffic; /* anything but NULL */
 }
 
-static void usb_close(void *handle)
+void usb_close(void *handle)
 {
     (void)handle;
     bench_stop();
 }
 
-/* A report is the report number, 0, and the packet. */
-static int usb_write(void *handle, const unsigned char *report, size_t length)
+int usb_write(void *handle, const unsigned char *report, size_t length)
 {
     const uint8_t *packet = report + 1;
     const char *answer;
 
     (void)handle;
     if (length != 1 + PACKET || report[0] != 0)
-        fail("libfido2 writes a report of %zu bytes with number %d", length, report[0]);
+        fail("%s writes a report of %zu bytes with number %d", client, length, report[0]);
     between_packets();
     record(packet);
     traffic.packets_out++;
-    traffic.bytes_out += gather(&request, packet);
-    if (packet[4] == CBOR) {
+    if (packet[4] != CANCEL) /* it has no bytes, and the request stays what it was */
+        traffic.bytes_out += gather(&request, packet);
+    if (packet[4] == CBOR || packet[4] == MSG) {
         holds = true;
         delivered = NULL;
     }
 
     answer = bench_packet(packet);
     if (strncmp(answer, "ok", 2) != 0)
-        fail("the key answers `%s` to a packet of libfido2", answer);
+        fail("the key answers `%s` to a packet of %s", answer, client);
     if (sscanf(answer, "ok ticket %" SCNu32, &traffic.ticket) == 1)
         core_is_handed(traffic.ticket);
     has_drawn = reply_in(answer, drawn);
+    if (has_drawn) /* an error or a channel: the key is free */
+        holds = false;
     if (disturbed && packet[4] == INIT && has_drawn) {
         stranger_comes(drawn);
         stranger_came = true;
@@ -113,13 +133,14 @@ static int usb_write(void *handle, const unsigned char *report, size_t length)
     return (int)length;
 }
 
-/* The core takes until libfido2 comes to read, so that knocks find the key waiting before and answering after. */
+/* The core takes until the client comes to read, so that knocks find the key waiting before and answering after. */
 static void core_acts(void)
 {
-    if (cancel_next) {
-        cancel_next = false;
-        if (fido_dev_cancel(device) != FIDO_OK)
-            fail("libfido2 cannot send its CANCEL");
+    void (*cancel_this)(void) = cancel;
+
+    cancel = NULL;
+    if (cancel_this != NULL) {
+        cancel_this();
         core_comes_late();
     } else {
         delivered = core_delivers(&request);
@@ -127,12 +148,12 @@ static void core_acts(void)
     between_packets();
 }
 
-static int usb_read(void *handle, unsigned char *packet, size_t length, int timeout)
+int usb_read(void *handle, unsigned char *packet, size_t length, int timeout)
 {
     (void)handle;
     (void)timeout; /* the core has acted: what is not there will not come */
     if (length != PACKET)
-        fail("libfido2 reads a report of %zu bytes", length);
+        fail("%s reads a report of %zu bytes", client, length);
     between_packets();
     if (core_is_busy())
         core_acts();
@@ -152,35 +173,36 @@ static int usb_read(void *handle, unsigned char *packet, size_t length, int time
     return PACKET;
 }
 
-fido_dev_t *usb_device(char *const command[], bool stranger)
+void usb_cancel_next(void (*by)(void))
 {
-    static const fido_dev_io_t io = { usb_open, usb_close, usb_read, usb_write };
-
-    bench_command = command;
-    disturbed = stranger;
-    if ((device = fido_dev_new()) == NULL || fido_dev_set_io_functions(device, &io) != FIDO_OK)
-        fail("libfido2 does not take the I/O functions");
-    return device;
+    cancel = by;
 }
 
-void usb_cancel_next(void)
+void usb_exchange(const char *name, bool handed_on, const char *reported, const char *expected)
 {
-    cancel_next = true;
+    printf("  %-31s %9zu %7u %8zu %7u  ", name, traffic.bytes_out, traffic.packets_out, traffic.bytes_in, traffic.packets_in);
+    if (traffic.ticket != 0)
+        printf("%6" PRIu32, traffic.ticket);
+    else
+        printf("%6s", "none");
+    printf("  %s\n", reported);
+    if (strcmp(reported, expected) != 0)
+        fail("%s was to report %s", client, expected);
+    if ((traffic.ticket != 0) != handed_on)
+        fail("the key was %sto hand this on to the core", handed_on ? "" : "not ");
+    memset(&traffic, 0, sizeof traffic);
+    exchanges++;
 }
 
-struct traffic usb_traffic(void)
-{
-    struct traffic since = traffic;
-
-    traffic = (struct traffic){ 0 };
-    return since;
-}
-
-size_t usb_compare(void)
+void usb_report(void)
 {
     size_t count = passed_count[0];
+    unsigned long knocks;
 
+    puts("What the stranger drew:");
+    knocks = stranger_report();
     if (passed_count[1] != count || memcmp(passed[0], passed[1], count * PACKET) != 0)
-        fail("with the stranger, libfido2's packets are not the same as without");
-    return count;
+        fail("with the stranger, the packets of %s are not the same as without", client);
+    printf("The %zu packets of %s with the stranger are those without, byte for byte.\n", count, client);
+    printf("interop: %s: %u exchanges, %lu knocks, all answered as expected\n", client, exchanges, knocks);
 }

@@ -2,6 +2,7 @@
 
 use std::io::{self, BufRead, Read, Write};
 
+use crate::apdu;
 use crate::cbor;
 use crate::command::{self, Fault};
 use crate::key::{Answer, Key, Message, Refusal, Transaction};
@@ -76,6 +77,7 @@ impl Bench {
             }
             Line::Check(bytes) => check(&bytes, out),
             Line::Item(levels, bytes) => item(levels, &bytes, out),
+            Line::Apdu(bytes) => apdu(&bytes, out),
             Line::LendReply(bytes) => self.reply_lent = bytes,
             Line::LendMessage(bytes) => self.message_lent = bytes,
             Line::State(key) => self.key = key,
@@ -168,6 +170,15 @@ fn item(levels: u8, bytes: &[u8], out: &mut Vec<u8>) {
     out.extend_from_slice(answer.as_bytes());
 }
 
+/// Whether an APDU goes to the core, or our own answer to it.
+fn apdu(message: &[u8], out: &mut Vec<u8>) {
+    let answer = match apdu::read(message) {
+        Ok(_) => "good\n".to_string(),
+        Err(status) => format!("status {:04x}\n", status as u16),
+    };
+    out.extend_from_slice(answer.as_bytes());
+}
+
 /// What a message or an item gets that is refused: the status, and where it is wrong.
 fn refused(fault: Fault) -> String {
     format!("status {:02x} at {}\n", fault.status as u8, fault.place)
@@ -222,6 +233,14 @@ mod tests {
         assert_eq!(
             answers("check\nitem 4\n"),
             "status 03 at 0\nstatus 12 at 0\n"
+        );
+    }
+
+    #[test]
+    fn apdus() {
+        assert_eq!(
+            answers("apdu 00030000000000\napdu\napdu 01030000000000\napdu 00000000000000\n"),
+            "good\nstatus 6700\nstatus 6e00\nstatus 6d00\n"
         );
     }
 

@@ -1,10 +1,11 @@
 //! The key: its state and the four calls (document 01, "What an opening packet gets" and "When a
-//! call is turned away").
+//! call is turned away"; request 2026-01 for MSG).
 
+use crate::apdu;
 use crate::command::{self, Status};
 use crate::packet::{
     self, Channel, Continuation, ErrorCode, Opening, Packet, BROADCAST, CANCEL, CBOR, ERROR, INIT,
-    LONGEST, PACKET, PING,
+    LONGEST, MSG, PACKET, PING,
 };
 
 /// Channels are given as 1, 2, 3 and on, at most this many: the next number is broadcast.
@@ -14,8 +15,8 @@ pub const GATHERING_TIME: u32 = 3_000;
 
 /// Bytes in an INIT request, all of them nonce.
 const NONCE: usize = 8;
-/// What an INIT reply ends with: protocol 2, device 1.0.0, flags CBOR and no MSG.
-const VERSIONS_AND_FLAGS: [u8; 5] = [0x02, 0x01, 0x00, 0x00, 0x0C];
+/// What an INIT reply ends with: protocol 2, device 1.0.0, flags CBOR and MSG.
+const VERSIONS_AND_FLAGS: [u8; 5] = [0x02, 0x01, 0x00, 0x00, 0x04];
 
 /// The number of a request that went to the core.
 #[derive(Clone, Copy, Debug, PartialEq, Eq)]
@@ -186,11 +187,10 @@ impl Key {
         if ticket != self.ticket {
             return Err(Refusal::Ticket);
         }
-        if !(1..=LONGEST).contains(&bytes.len()) {
+        if !(shortest_delivery(message.command)..=LONGEST).contains(&bytes.len()) {
             return Err(Refusal::Delivery);
         }
-        buffer[..bytes.len()].copy_from_slice(bytes);
-        self.transaction = answering(message, bytes.len() as u16);
+        self.transaction = answering_with(message, bytes, buffer);
         Ok(Answer::Silent)
     }
 
@@ -270,7 +270,7 @@ impl Key {
         if !opens_transaction(command) {
             return error(reply, channel, ErrorCode::InvalidCommand);
         }
-        if usize::from(length) > LONGEST || command == CBOR && length == 0 {
+        if usize::from(length) > LONGEST || goes_to_core(command) && length == 0 {
             return error(reply, channel, ErrorCode::InvalidLength);
         }
         let message = Message {
@@ -296,11 +296,11 @@ impl Key {
         init_reply(reply, BROADCAST, opening.payload, Channel(self.channels))
     }
 
-    /// The rows of CANCEL: only the holder's, while waiting, does anything.
+    /// The rows of CANCEL: only the holder's, while CBOR waits, does anything.
     fn cancel(&mut self, channel: Channel, buffer: &mut [u8; LONGEST]) -> Answer {
         if let Transaction::Waiting { message } = self.transaction {
-            if message.holder == channel {
-                self.transaction = answering_status(message, Status::Cancelled, buffer);
+            if message.holder == channel && message.command == CBOR {
+                self.transaction = answering_with(message, &[Status::Cancelled as u8], buffer);
             }
         }
         Answer::Silent
@@ -361,24 +361,30 @@ impl Key {
         Answer::Silent
     }
 
-    /// PING is answering with its own bytes; CBOR is checked, and a good one is waiting.
+    /// PING is answering with its own bytes; CBOR and MSG are checked, and what is refused is
+    /// answering with its status.
     fn complete(&mut self, message: Message, buffer: &mut [u8; LONGEST]) -> Answer {
-        if message.command == PING {
-            self.transaction = answering(message, message.length);
-            return Answer::Silent;
-        }
-        match command::check(&buffer[..usize::from(message.length)]) {
-            Err(fault) => {
+        let whole = &buffer[..usize::from(message.length)];
+        self.transaction = match message.command {
+            PING => answering(message, message.length),
+            MSG => match apdu::read(whole) {
+                Err(status) => answering_with(message, &status.bytes(), buffer),
+                Ok(_) => return self.hand_on(message),
+            },
+            _ => match command::check(whole) {
                 // A packet carries the status alone.
-                self.transaction = answering_status(message, fault.status, buffer);
-                Answer::Silent
-            }
-            Ok(_) => {
-                self.transaction = Transaction::Waiting { message };
-                self.ticket = Ticket(self.ticket.0.wrapping_add(1));
-                Answer::Request(self.ticket)
-            }
-        }
+                Err(fault) => answering_with(message, &[fault.status as u8], buffer),
+                Ok(_) => return self.hand_on(message),
+            },
+        };
+        Answer::Silent
+    }
+
+    /// The message is waiting for the core, with the next ticket.
+    fn hand_on(&mut self, message: Message) -> Answer {
+        self.transaction = Transaction::Waiting { message };
+        self.ticket = Ticket(self.ticket.0.wrapping_add(1));
+        Answer::Request(self.ticket)
     }
 }
 
@@ -389,7 +395,15 @@ fn opens_transaction(command: u8) -> bool {
 
 /// Whether a message of this command can be for the core.
 fn goes_to_core(command: u8) -> bool {
-    command == CBOR
+    command == CBOR || command == MSG
+}
+
+/// The fewest bytes that the core can deliver: a status, which has two bytes for MSG.
+fn shortest_delivery(command: u8) -> usize {
+    match command {
+        MSG => 2,
+        _ => 1,
+    }
 }
 
 /// The first `length` bytes of the buffer are the reply to `request`.
@@ -400,10 +414,10 @@ fn answering(request: Message, length: u16) -> Transaction {
     }
 }
 
-/// Stores the status as byte 0 of the buffer, a reply by itself.
-fn answering_status(request: Message, status: Status, buffer: &mut [u8; LONGEST]) -> Transaction {
-    buffer[0] = status as u8;
-    answering(request, 1)
+/// These bytes become the first of the buffer and are the reply to `request`.
+fn answering_with(request: Message, bytes: &[u8], buffer: &mut [u8; LONGEST]) -> Transaction {
+    buffer[..bytes.len()].copy_from_slice(bytes);
+    answering(request, bytes.len() as u16)
 }
 
 /// Error: length 1, the code.
@@ -482,7 +496,7 @@ mod tests {
         assert_eq!(host.open(BROADCAST.0, INIT, &nonce), Answer::Reply);
         let expected = padded(&[
             0xFF, 0xFF, 0xFF, 0xFF, 0x86, 0x00, 0x11, 1, 2, 3, 4, 5, 6, 7, 8, 0, 0, 0, 1, 0x02,
-            0x01, 0x00, 0x00, 0x0C,
+            0x01, 0x00, 0x00, 0x04,
         ]);
         assert_eq!(host.reply, expected);
         assert_eq!(host.key.channels, 1);
@@ -549,6 +563,49 @@ mod tests {
         assert_eq!(host.deliver(2, &[]), Err(Refusal::Delivery));
         assert_eq!(host.deliver(2, &[0x00]), Ok(Answer::Silent));
         assert_eq!(host.deliver(2, &[0x00]), Err(Refusal::Phase));
+    }
+
+    #[test]
+    fn a_good_msg_waits_for_two_bytes_or_more() {
+        let mut host = Host::new(1);
+        let version = [0x00, 0x03, 0x00, 0x00, 0x00, 0x00, 0x00];
+        assert_eq!(host.open(1, MSG, &version), Answer::Request(Ticket(1)));
+        let (key, buffer) = (host.key, host.buffer);
+        assert_eq!(host.open(1, CANCEL, &[]), Answer::Silent);
+        assert_eq!(host.deliver(2, &[0x90]), Err(Refusal::Ticket));
+        assert_eq!(host.deliver(1, &[0x90]), Err(Refusal::Delivery));
+        assert_eq!(host.deliver(1, &[0; LONGEST + 1]), Err(Refusal::Delivery));
+        assert_eq!((host.key, host.buffer), (key, buffer));
+        assert_eq!(host.deliver(1, &[0x90, 0x00]), Ok(Answer::Silent));
+        assert_eq!(host.fetch(), Ok(Answer::Reply));
+        let expected = padded(&[0x00, 0x00, 0x00, 0x01, 0x83, 0x00, 0x02, 0x90, 0x00]);
+        assert_eq!(host.reply, expected);
+    }
+
+    #[test]
+    fn a_bad_msg_is_answered_with_two_bytes() {
+        for (message, status) in [
+            (&[0xFF][..], [0x67, 0x00]),
+            (&[0x80, 0, 0, 0, 0, 0, 0], [0x6E, 0x00]),
+            (&[0x00, 0, 0, 0, 0, 0, 0], [0x6D, 0x00]),
+        ] {
+            let mut host = Host::new(1);
+            assert_eq!(host.open(1, MSG, message), Answer::Silent);
+            assert_eq!(host.buffer[..2], status);
+            assert_eq!(host.key.ticket, Ticket(0));
+            assert_eq!(host.fetch(), Ok(Answer::Reply));
+            let expected = [&[0x00, 0x00, 0x00, 0x01, 0x83, 0x00, 0x02][..], &status].concat();
+            assert_eq!(host.reply, padded(&expected));
+        }
+    }
+
+    #[test]
+    fn a_msg_of_no_bytes_is_of_a_wrong_length() {
+        let mut host = Host::new(1);
+        assert_eq!(host.open(1, MSG, &[]), Answer::Reply);
+        let expected = padded(&[0x00, 0x00, 0x00, 0x01, 0xBF, 0x00, 0x01, 0x03]);
+        assert_eq!(host.reply, expected);
+        assert_eq!(host.key.transaction, Transaction::Idle);
     }
 
     #[test]
@@ -649,9 +706,12 @@ mod tests {
         for transaction in [
             gathering(1, PING, 58, 1, 1),
             gathering(2, CBOR, 7_609, 128, 3_000),
+            gathering(1, MSG, 58, 1, 1),
             waiting(1, CBOR, 0),
             waiting(2, CBOR, 7_609),
+            waiting(1, MSG, 0),
             answering(1, CBOR, 0, 0),
+            answering(1, MSG, 1, 0),
             answering(2, PING, 7_609, 128),
         ] {
             assert!(is_in_order(transaction), "{transaction:?}");

@@ -2,9 +2,10 @@
 //! hold the proved program to it.
 //!
 //! The model is a second reading of the same rules: [`packet`] (framing), [`cbor`] (canonical
-//! items), [`command`] (the checking call), [`key`] (the state and the four calls) and [`bench`]
-//! (the line protocol, also as the program `model-bench`). Nothing is proved of it; it is there to
-//! be compared. It is also the ordinary Rust version against which speed is measured.
+//! items), [`command`] (the checking call), [`apdu`] (what MSG carries), [`key`] (the state and the
+//! four calls) and [`bench`] (the line protocol, also as the program `model-bench`). Nothing is
+//! proved of it; it is there to be compared. It is also the ordinary Rust version against which
+//! speed is measured.
 //!
 //! `cargo test --release` in this folder runs the unit tests, the scripts of `../vectors` and
 //! `../examples`, and the program `bench` against the model: table by table, with faults at places
@@ -16,6 +17,7 @@
 //! `cargo run --release --bin soak -- 600s` (or a number of events) compares for longer, from a seed
 //! of its own unless `SEED` gives one.
 
+pub mod apdu;
 pub mod bench;
 pub mod cbor;
 pub mod command;

@@ -23,6 +23,7 @@ pub enum Line {
     Fetch,
     Check(Vec<u8>),
     Item(u8, Vec<u8>),
+    Apdu(Vec<u8>),
     LendReply(usize),
     LendMessage(usize),
     State(Key),
@@ -51,6 +52,7 @@ pub fn read(line: &[u8]) -> Option<Line> {
             let levels = number(levels).filter(|&levels| levels <= LEVELS)?;
             Line::Item(levels, optional_hex(hex)?)
         }
+        ["apdu", ref hex @ ..] => Line::Apdu(optional_hex(hex)?),
         ["reply", bytes] => Line::LendReply(number_up_to(REPLY_BUFFER, bytes)?),
         ["message", bytes] => Line::LendMessage(number_up_to(MESSAGE_BUFFER, bytes)?),
         ["state", channels, ticket, ref transaction @ ..] => Line::State(Key {
@@ -153,6 +155,8 @@ mod tests {
             ("check 04", Line::Check(vec![0x04])),
             ("item 4 80", Line::Item(4, vec![0x80])),
             ("item 0", Line::Item(0, vec![])),
+            ("apdu 00fF", Line::Apdu(vec![0x00, 0xFF])),
+            ("apdu", Line::Apdu(vec![])),
             ("reply 128", Line::LendReply(128)),
             ("message 8192", Line::LendMessage(8_192)),
             ("show", Line::Show),
@@ -184,6 +188,9 @@ mod tests {
             "deliver 4294967296",
             "item 5 00",
             "item",
+            "apdu 0",
+            "apdu 00 00",
+            "apdu ",
             "reply 129",
             "message 8193",
             "state 0 0",

@@ -21,6 +21,7 @@ const CONTINUATION_HEADER: usize = PACKET - LATER_PAYLOAD;
 
 /// Commands, without the bit that marks an opening packet.
 pub const PING: u8 = 0x01;
+pub const MSG: u8 = 0x03;
 pub const INIT: u8 = 0x06;
 pub const CBOR: u8 = 0x10;
 pub const CANCEL: u8 = 0x11;

@@ -51,6 +51,7 @@ fn the_program_answers_a_line_before_the_next_is_sent() {
         "nonsense",
         "check 04",
         "item 4 80",
+        "apdu 00030000000000",
         "time 0",
         "show",
     ];

@@ -7,12 +7,12 @@ mod common;
 use common::{agree, hex};
 use model::packet::LONGEST;
 use model::trial::breaches::{self, sound, Sound};
+use model::trial::cases::Cases;
 use model::trial::commands::{self, Command, GET_INFO};
 use model::trial::faults::{self, Fault};
 use model::trial::item;
 use model::trial::random::Random;
 use model::trial::run::seed_or;
-use model::trial::script::Script;
 use model::trial::tree::{Spot, Tree, Written, MAP};
 
 /// Lines for each rule, at least.
@@ -20,20 +20,17 @@ const LINES: usize = 3_000;
 /// How many items of one message are tried, at most.
 const SPOTS: usize = 6;
 
-/// Lines and the answers they have to get.
+/// Lines with the answers they have to get, and the furthest place among them.
 #[derive(Default)]
-struct Cases {
-    lines: Vec<String>,
-    answers: Vec<String>,
-    /// The furthest place that is expected.
+struct Places {
+    cases: Cases,
     furthest: usize,
 }
 
-impl Cases {
+impl Places {
     fn push(&mut self, words: &str, bytes: &[u8], answer: String) {
         let line = format!("{words} {}", hex(bytes));
-        self.lines.push(line.trim_end().to_string());
-        self.answers.push(answer);
+        self.cases.push(line.trim_end().to_string(), answer);
     }
 
     /// Expects a fault. A command that its fault has made too long is left out.
@@ -46,14 +43,8 @@ impl Cases {
 
     /// The model answers as expected, and the program as the model.
     fn hold(self) {
-        let answers = Script::answered(self.lines.clone()).answers;
-        let answers = String::from_utf8(answers).expect("answers are ASCII");
-        let mut answers = answers.lines();
-        for (line, expected) in self.lines.iter().zip(&self.answers) {
-            let answer = answers.next();
-            assert_eq!(answer, Some(&expected[..]), "the model answers {line}");
-        }
-        agree(self.lines);
+        assert_eq!(self.cases.wrong_answer(), None);
+        agree(self.cases.lines);
     }
 
     /// The same, and the places go as far as the longest messages.
@@ -65,10 +56,10 @@ impl Cases {
 
 /// Cases of a rule, made one after another until there are enough lines. Each rule has a number, so
 /// that no two have the same random numbers.
-fn cases(rule: u64, lines: usize, mut more: impl FnMut(&mut Random, &mut Cases)) -> Cases {
+fn cases(rule: u64, lines: usize, mut more: impl FnMut(&mut Random, &mut Places)) -> Places {
     let mut random = Random::new(seed_or(0).wrapping_add(rule));
-    let mut cases = Cases::default();
-    while cases.lines.len() < lines {
+    let mut cases = Places::default();
+    while cases.cases.lines.len() < lines {
         more(&mut random, &mut cases);
     }
     cases
@@ -90,7 +81,12 @@ fn what_is_sound_is_taken() {
 }
 
 /// Puts a breach of this class at one item of a message, then at another instead, and so on.
-fn breach_somewhere(random: &mut Random, cases: &mut Cases, sound: &Sound, plant: breaches::Plant) {
+fn breach_somewhere(
+    random: &mut Random,
+    cases: &mut Places,
+    sound: &Sound,
+    plant: breaches::Plant,
+) {
     let Written { bytes, spots } = &sound.written;
     for _ in 0..SPOTS.min(spots.len()) {
         let spot = &spots[random.below(spots.len())];
@@ -101,7 +97,7 @@ fn breach_somewhere(random: &mut Random, cases: &mut Cases, sound: &Sound, plant
 }
 
 /// One breach of this class in each line.
-fn one_breach(rule: u64, plant: breaches::Plant) -> Cases {
+fn one_breach(rule: u64, plant: breaches::Plant) -> Places {
     cases(rule, LINES, |random, cases| {
         let sound = sound(random);
         breach_somewhere(random, cases, &sound, plant);
@@ -225,14 +221,14 @@ fn of_two_breaches_the_first_counts() {
 }
 
 /// Expects this fault of a command.
-fn expect(cases: &mut Cases, command: Command, fault: &Fault) {
+fn expect(cases: &mut Places, command: Command, fault: &Fault) {
     let written = Sound::check(command).written;
     let place = written.spot(&fault.path).place;
     cases.fault("check", &written.bytes, fault.status, place);
 }
 
 /// One fault of this class in each line.
-fn one_fault(rule: u64, plant: faults::Plant) -> Cases {
+fn one_fault(rule: u64, plant: faults::Plant) -> Places {
     cases(rule, LINES, |random, cases| {
         let mut command = commands::good(random);
         if let Some(fault) = plant(random, &mut command) {
@@ -339,7 +335,7 @@ fn a_wrong_size_or_command_is_at_0_and_what_follows_get_info_at_1() {
 
 #[test]
 fn a_message_that_is_too_long_is_at_0() {
-    let mut cases = Cases::default();
+    let mut cases = Places::default();
     let mut random = Random::new(23);
     for size in [LONGEST + 1, LONGEST + 2, 8_192, 9_000] {
         for command in [0x00, 0x01, 0x02, GET_INFO, 0xFF] {

@@ -1,18 +1,26 @@
-//! The scripts catch the shortcuts that document 01 has seen and other rules for the channels, and
-//! shorten to a script that tells what is wrong. Each is the model with one line's handling changed.
+//! The scripts catch the shortcuts that document 01 has seen and other rules for the channels, for
+//! MSG and for APDUs, and shorten to a script that tells what is wrong. Each is the model with one
+//! line's handling changed.
+
+#[path = "shortcuts/apdus.rs"]
+mod apdus;
+#[path = "shortcuts/msg.rs"]
+mod msg;
 
 use model::bench::Bench;
 use model::key::{Transaction, MOST_CHANNELS};
 use model::line::{self, Line};
 use model::packet::{part_carried, Packet, BROADCAST, INIT, PACKET};
 use model::trial::program::Outcome;
-use model::trial::run::{compare, Difference, Enough};
+use model::trial::run::{compare, Difference, Done, Enough};
 
 /// The most lines a shortened script can have and still tell what is wrong.
 const SHORT: usize = 6;
 
 /// Compares the model with a key that answers lines as `answer` does.
-fn caught(answer: impl Fn(&mut Bench, &str, &mut Vec<u8>) + Sync) -> Difference {
+fn compared(
+    answer: impl Fn(&mut Bench, &str, &mut Vec<u8>) + Sync,
+) -> Result<Done, Box<Difference>> {
     let subject = |lines: &[String]| {
         let mut bench = Bench::default();
         let mut outcome = Outcome::default();
@@ -21,7 +29,12 @@ fn caught(answer: impl Fn(&mut Bench, &str, &mut Vec<u8>) + Sync) -> Difference 
         }
         outcome
     };
-    *compare(&subject, 1, Enough::Events(200_000), &|_| {}).expect_err("no script catches it")
+    compare(&subject, 1, Enough::Events(200_000), &|_| {})
+}
+
+/// The difference between the model and a key that answers lines as `answer` does.
+fn caught(answer: impl Fn(&mut Bench, &str, &mut Vec<u8>) + Sync) -> Difference {
+    *compared(answer).expect_err("no script catches it")
 }
 
 /// The packet of a line, where it has the size of one.

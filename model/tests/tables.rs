@@ -4,10 +4,10 @@
 mod common;
 
 use common::{agree, hex};
-use model::packet::{Channel, CBOR, LONGEST, PACKET, PING};
+use model::packet::{cut, Channel, CBOR, LONGEST, MSG, PACKET, PING};
 
 /// States in order, of each phase; who holds the key is channel 2, or the last that can be given.
-const PHASES: [&str; 13] = [
+const PHASES: [&str; 17] = [
     "state 3 9 idle",
     "state 65535 9 idle",
     "state 4294967293 9 idle",
@@ -15,9 +15,13 @@ const PHASES: [&str; 13] = [
     "state 3 9 gathering 2 1 7609 1 3000",
     "state 3 9 gathering 2 16 7609 128 1",
     "state 3 4294967295 gathering 2 16 58 1 1",
+    "state 3 9 gathering 2 3 58 1 3000",
+    "state 3 9 gathering 2 3 7609 128 1",
     "state 3 9 waiting 2 16 7609",
+    "state 3 9 waiting 2 3 7609",
     "state 3 9 answering 2 1 58 1",
     "state 3 9 answering 2 16 7609 0",
+    "state 3 9 answering 2 3 2 0",
     "state 4294967294 9 gathering 4294967294 16 58 1 3000",
     "state 4294967294 9 waiting 4294967294 16 7609",
     "state 4294967294 9 answering 4294967294 1 58 1",
@@ -134,7 +138,7 @@ fn every_refusal_beside_every_other() {
     }
     for ticket in [8, 9, 10] {
         calls.push(format!("deliver {ticket}"));
-        for length in [1, LONGEST, LONGEST + 1] {
+        for length in [1, 2, LONGEST, LONGEST + 1] {
             calls.push(format!("deliver {ticket} {}", "5a".repeat(length)));
         }
     }
@@ -167,7 +171,7 @@ fn every_refusal_beside_every_other() {
 #[test]
 fn every_step_of_time() {
     let mut lines = Vec::new();
-    for command in [PING, CBOR] {
+    for command in [PING, MSG, CBOR] {
         for left in [1, 2, 1_500, 2_999, 3_000] {
             let near = [left - 1, left, left + 1];
             for elapsed in [0, 1, 2_999, 3_000, 3_001, 1 << 31, u32::MAX]
@@ -207,6 +211,88 @@ fn every_length_of_a_message() {
         }
         for _ in 0..=1 + length.saturating_sub(57).div_ceil(59) {
             lines.push("fetch".to_string());
+        }
+    }
+    agree(lines);
+}
+
+/// An APDU of as many bytes, whose length bytes say this.
+fn apdu(class: u8, instruction: u8, fifth: u8, size: usize, length: u16) -> Vec<u8> {
+    let [high, low] = length.to_be_bytes();
+    let mut apdu = vec![class, instruction, 0x00, 0x00, fifth, high, low];
+    apdu.resize(size, 0x61);
+    apdu
+}
+
+/// APDUs that are handed on and ones that get each of our answers, of sizes around which packets
+/// are added.
+fn apdus() -> Vec<Vec<u8>> {
+    let headers = [
+        (0x00, 1, 0x00),
+        (0x00, 3, 0x00),
+        (0x00, 0, 0x00),
+        (0x00, 4, 0x01),
+        (0x00, 2, 0x01),
+        (0x00, 2, 0x80),
+        (0x01, 1, 0x00),
+        (0x80, 0, 0xFF),
+    ];
+    let mut apdus = Vec::new();
+    for size in (1..=10).chain([57, 58, 116, 117, 7_608, LONGEST]) {
+        for (class, instruction, fifth) in headers {
+            for length in size.saturating_sub(10)..=size.saturating_sub(7) {
+                apdus.push(apdu(class, instruction, fifth, size, length as u16));
+            }
+        }
+    }
+    apdus
+}
+
+#[test]
+fn every_message_of_msg() {
+    let calls = [
+        "deliver 1",
+        "deliver 1 90",
+        "deliver 0 9000",
+        "deliver 1 9000",
+    ];
+    let mut lines = Vec::new();
+    for apdu in apdus() {
+        lines.push("state 2 0 idle".to_string());
+        for packet in cut(Channel(1), MSG, &apdu) {
+            lines.push(format!("packet {}", hex(&packet)));
+        }
+        peek(&mut lines);
+        for channel in [2, 1] {
+            lines.push(packet(Channel(channel), 0x91, 0));
+        }
+        for call in calls {
+            peek(&mut lines);
+            lines.push(call.to_string());
+        }
+        for _ in 0..2 {
+            peek(&mut lines);
+            lines.push("fetch".to_string());
+        }
+    }
+    agree(lines);
+}
+
+#[test]
+fn every_length_of_a_delivery() {
+    let mut lines = Vec::new();
+    for command in [MSG, CBOR] {
+        for length in (0..=180).chain([7_607, 7_608, LONGEST, LONGEST + 1]) {
+            lines.push(format!("state 1 9 waiting 1 {command} 1"));
+            lines.push(
+                format!("deliver 9 {}", "5a".repeat(length))
+                    .trim_end()
+                    .to_string(),
+            );
+            peek(&mut lines);
+            for _ in 0..=2 + length / 59 {
+                lines.push("fetch".to_string());
+            }
         }
     }
     agree(lines);

@@ -1,7 +1,8 @@
 //! Scripts with their answers: those of `vectors`, which come from an independent reading of the
-//! documents, and those of `examples`. `vectors/10` has the rules as requests 2026-03 (the order of
-//! keys), 2026-07 (text is UTF-8), 2026-09 (where a message is wrong) and 2026-10 (4,294,967,294
-//! channels) amend them; what happens at the last channel is in `vectors/examples.in`.
+//! documents, and those of `examples`. `vectors/01` has the rules as requests 2026-03 (the order of
+//! keys), 2026-07 (text is UTF-8), 2026-09 (where a message is wrong), 2026-10 (4,294,967,294
+//! channels) and 2026-01 (MSG) amend them; what happens at the last channel, and to a MSG that waits,
+//! is in `vectors/examples.in`.
 
 use std::fs;
 use std::path::{Path, PathBuf};
@@ -32,7 +33,7 @@ fn vectors() -> Vec<(PathBuf, Vec<u8>, Vec<u8>)> {
     let read =
         |path: &Path| fs::read(path).unwrap_or_else(|error| panic!("{}: {error}", path.display()));
     let mut paths = scripts("vectors", "in");
-    paths.extend(scripts("vectors/10", "in"));
+    paths.extend(scripts("vectors/01", "in"));
     paths.extend(scripts("examples", "txt"));
     paths
         .into_iter()

@@ -1,10 +1,11 @@
-// The checking call and the item reader on bytes alone.
+// The checking call, the APDU reader and the item reader on bytes alone.
 use crate::bench::Bench;
 use crate::bench::Taken;
 use crate::output;
 use crate::words;
 use crate::words::Hex;
 use crate::words::Number8;
+use apdu::Apdu;
 use cbor::Item;
 use command::Checked;
 ghost use Prim.Native.Nat.{_≤_};
@@ -19,8 +20,48 @@ const LEVELS: u8 = 4;
 
 const INVALID_CBOR: u8 = 0x12;
 
+// What is asked of bytes alone.
+enum Asked {
+    Check,
+    Apdu,
+    Item(u8),
+}
+
 // `check HEX`
 pub(crate) fn check(b: Bench, text: &[u8], out: &mut [u8]) -> Taken
+    requires { ⌜ lends b ⌝ }
+    requires { ⌜ answerSize ≤ length (now out) ⌝ }
+    ensures { λ r. ⌜ fits r ⌝ }
+{
+    of_bytes(b, Asked::Check, text, out)
+}
+
+// `apdu HEX`
+pub(crate) fn apdu(b: Bench, text: &[u8], out: &mut [u8]) -> Taken
+    requires { ⌜ lends b ⌝ }
+    requires { ⌜ answerSize ≤ length (now out) ⌝ }
+    ensures { λ r. ⌜ fits r ⌝ }
+{
+    of_bytes(b, Asked::Apdu, text, out)
+}
+
+// `item L HEX`
+pub(crate) fn item(b: Bench, text: &[u8], out: &mut [u8]) -> Taken
+    requires { ⌜ lends b ⌝ }
+    requires { ⌜ answerSize ≤ length (now out) ⌝ }
+    ensures { λ r. ⌜ fits r ⌝ }
+{
+    let Number8::Is(levels) = words::number8_of(words::word(text)) else {
+        return Taken::No;
+    };
+    if LEVELS < levels {
+        return Taken::No;
+    }
+    of_bytes(b, Asked::Item(levels), words::rest(text), out)
+}
+
+// The bytes that the text is the hex of.
+fn of_bytes(b: Bench, asked: Asked, text: &[u8], out: &mut [u8]) -> Taken
     requires { ⌜ lends b ⌝ }
     requires { ⌜ answerSize ≤ length (now out) ⌝ }
     ensures { λ r. ⌜ fits r ⌝ }
@@ -29,7 +70,18 @@ pub(crate) fn check(b: Bench, text: &[u8], out: &mut [u8]) -> Taken
     let Hex::Bytes(n) = words::bytes_of(text, &mut bytes) else {
         return Taken::No;
     };
-    Taken::Yes(b, checked(command::check(&bytes[0..n]), out))
+    Taken::Yes(b, answer(asked, &bytes[0..n], out))
+}
+
+fn answer(asked: Asked, bytes: &[u8], out: &mut [u8]) -> usize
+    requires { ⌜ answerSize ≤ length (now out) ⌝ }
+    ensures { λ r. ⌜ r ≤ answerSize ⌝ }
+{
+    match asked {
+        Asked::Check => checked(command::check(bytes), out),
+        Asked::Apdu => answered(apdu::read(bytes), out),
+        Asked::Item(levels) => read(cbor::read_item(bytes, levels), out),
+    }
 }
 
 // `good`, `good hash AT` or `status HH at N`
@@ -54,23 +106,19 @@ fn fault(code: u8, place: usize, out: &mut [u8]) -> usize
     output::text(end, b"\n", out)
 }
 
-// `item L HEX`
-pub(crate) fn item(b: Bench, text: &[u8], out: &mut [u8]) -> Taken
-    requires { ⌜ lends b ⌝ }
+// `good` or `status HHHH`
+fn answered(found: Apdu, out: &mut [u8]) -> usize
     requires { ⌜ answerSize ≤ length (now out) ⌝ }
-    ensures { λ r. ⌜ fits r ⌝ }
+    ensures { λ r. ⌜ r ≤ answerSize ⌝ }
 {
-    let mut bytes = [0u8; MOST];
-    let Number8::Is(levels) = words::number8_of(words::word(text)) else {
-        return Taken::No;
-    };
-    if LEVELS < levels {
-        return Taken::No;
+    match found {
+        Apdu::HandedOn {
+            at: _,
+            size: _,
+            reply: _,
+        } => output::text(0, b"good\n", out),
+        Apdu::Status(high, low) => output::in_hex(0, b"status ", &[high, low], out),
     }
-    let Hex::Bytes(n) = words::bytes_of(words::rest(text), &mut bytes) else {
-        return Taken::No;
-    };
-    Taken::Yes(b, read(cbor::read_item(&bytes[0..n], levels), out))
 }
 
 // `item N` or `status 12 at N`

@@ -21,6 +21,7 @@ enum Kind {
     Deliver,
     Fetch,
     Check,
+    Apdu,
     Item,
     Reply,
     Message,
@@ -58,6 +59,9 @@ fn named(word: &[u8]) -> Kind {
     if same(word, b"check") {
         return Kind::Check;
     }
+    if same(word, b"apdu") {
+        return Kind::Apdu;
+    }
     if same(word, b"item") {
         return Kind::Item;
     }
@@ -93,6 +97,7 @@ pub(crate) fn run(
         Kind::Deliver => calls::deliver(b, text, reply, message, out),
         Kind::Fetch => calls::fetch(b, reply, message, out),
         Kind::Check => checks::check(b, text, out),
+        Kind::Apdu => checks::apdu(b, text, out),
         Kind::Item => checks::item(b, text, out),
         Kind::Reply => settings::reply(b, text),
         Kind::Message => settings::message(b, text),

@@ -11,7 +11,7 @@ use Rattle.command.specs.Map.{argumentIn, after, placesAt, entriesAt, counted, 
 use Rattle.command.specs.Algorithms.{inTurn}
 use Rattle.command.specs.Parameters.{parameterOf, throughOf, requiredOf, absentOf}
 use Rattle.command.specs.Check.{onRequired, shownOf, unsupportedOf, goodOf, settledOf, nothingAfter, oneMap, parametersIn, parametersOf, commandOf as checkCommand, checkOf}
-use Rattle.state.specs.Table.{_⇒_else_, all}
+use Rattle.rows.specs.Table.{_⇒_else_, all}
 use Rattle.state.specs.Order.{known, starts, toCore, messageInOrder, phaseInOrder, inOrder}
 use Rattle.table.specs.Opening.{ifHolder, standingOf, badLength, openingRows}
 use Rattle.machine.specs.Machine.{carriedOut, opening, packetRows, lent, rows, step}

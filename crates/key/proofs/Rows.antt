@@ -18,15 +18,15 @@ use Rattle.state.specs.declared.Phase.the-variants.{Idle, Gathering}
 use Rattle.state.specs.declared.Work.{Work}
 use Rattle.state.specs.declared.State.{State}
 use Rattle.state.specs.declared.Outcome.{Outcome}
-use Rattle.state.specs.Table.{_⇒_else_, row}
+use Rattle.rows.specs.Table.{_⇒_else_, row}
 use Rattle.state.specs.Order.{inOrder}
 use Rattle.state.specs.Answers.{now}
-use Rattle.command.specs.declared.Checked.{Checked}
 use Rattle.table.specs.declared.Verdict.the-variants.{Opened}
 use Rattle.table.specs.Opening.{same}
-use Rattle.machine.specs.Machine.{Event, time, deliver, fetch, Turn, quiet, says, beside, judged, completed, taken, carriedOut, continuing, timeRows, deliverRows, fetchRows, lent, rows, step}
+use Rattle.machine.specs.Machine.{time, deliver, fetch, Turn, quiet, says, beside, completed, taken, carriedOut, continuing, timeRows, deliverRows, fetchRows, lent, rows, step}
 use Rattle.machine.specs.Call.{effect, asked}
-use Rattle.command.specs.declared.Checked.the-variants as checked
+use Rattle.machine.proofs.Steps.{step-rows}
+use Rattle.machine.proofs.Completed.{completed-cases}
 
 -- ---- a payload is taken
 
@@ -40,17 +40,11 @@ module _ (w : Work) (h : Channel) (command n k left : ℕ) (payload m : List ℕ
   unfolding taken _⇒_else_
   taken-last l = rw (le-ltb (suc k) (packets n) (omega arith))
 
-judged-silent : (w : Work) (h : Channel) (command n : ℕ) (m : List ℕ) (c : Checked) → judged w h command n m c .reply ≡ none
-unfolding judged
-judged-silent w h command n m (checked.Refused status place) = refl
-judged-silent w h command n m checked.Info = refl
-judged-silent w h command n m (checked.Good hash) = refl
-
 -- no reply is sent while a message is taken
 pub taken-silent : (w : Work) (h : Channel) (command n k left : ℕ) (payload m : List ℕ) → taken w h command n k left payload m .reply ≡ none
-unfolding taken completed
+unfolding taken
 taken-silent w h command n k left payload m =
-    row P _ _ _ (λ _. refl) (λ _. row P _ _ _ (λ _. refl) (λ _. judged-silent w h command n _ _))
+    row P _ _ _ (λ _. refl) (λ _. completed-cases P w h command n _ (λ _ _ _. refl) (λ _. refl))
   where
     P : Turn Work → Type 0
     P t = t .reply ≡ none
@@ -82,23 +76,18 @@ module _ (w : Work) (m p : List ℕ) {h c : Channel} {command n k left : ℕ} {f
   unfolding continuing _⇒_else_
   continuing-next a b = rw (e, ← is, a, eq-eqb (numberOf p + 1) k b, to-the-end p 5)
 
--- ---- a call that is not turned away for its state or for what is lent
+-- ---- a call that is not turned away for its state or for what is lent: its row by the phase that the key is in
 
-pub step-goes : (s : State) (m : List ℕ) (e : Event) → inOrder s ≡ true → lent e (length m) ≡ 0 → step s m e ≡ rows s m e
-unfolding step _⇒_else_
-step-goes s m e o l = rw (o, l)
-
--- each call's row by the phase that the key is in
 module _ (s : State) (m : List ℕ) (f : Phase) (o : inOrder s ≡ true) (e : s .work .phase ≡ f) where
   pub time-row : (ms space : ℕ) → 64 ≤ space → step s m (time ms space) ≡ beside (s .given) (timeRows (s .work) f ms m)
   unfolding lent rows _⇒_else_
-  time-row ms space a = step-goes s m (time ms space) o (rw (le-ltb space 64 a)) ∙ rw e
+  time-row ms space a = step-rows s m (time ms space) o (rw (le-ltb space 64 a)) ∙ rw e
 
   pub deliver-row : (ticket : Ticket) (bytes : List ℕ) → 7609 ≤ length m
       → step s m (deliver ticket bytes) ≡ beside (s .given) (deliverRows (s .work) f ticket bytes m)
   unfolding lent rows _⇒_else_
-  deliver-row ticket bytes b = step-goes s m (deliver ticket bytes) o (rw (le-ltb (length m) 7609 b)) ∙ rw e
+  deliver-row ticket bytes b = step-rows s m (deliver ticket bytes) o (rw (le-ltb (length m) 7609 b)) ∙ rw e
 
   pub fetch-row : (space : ℕ) → 64 ≤ space → 7609 ≤ length m → step s m (fetch space) ≡ beside (s .given) (fetchRows (s .work) f m)
   unfolding lent rows _⇒_else_
-  fetch-row space a b = step-goes s m (fetch space) o (rw (le-ltb space 64 a, le-ltb (length m) 7609 b)) ∙ rw e
+  fetch-row space a b = step-rows s m (fetch space) o (rw (le-ltb space 64 a, le-ltb (length m) 7609 b)) ∙ rw e

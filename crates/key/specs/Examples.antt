@@ -1,4 +1,5 @@
--- Document 01, "Examples on the bench": the rows marked P, as one table, with the two on the order of keys as request 2026-03 has them.
+-- Document 01, "Examples on the bench": the rows marked P, as one table, with the two on the order of keys as request 2026-03 has them and
+-- the flags of the INIT reply as 2026-01 has them.
 use Prim.Native.Nat.{ℕ}
 use mathlib.Core.Path.{_≡_}
 use mathlib.Core.Option.{Option, some}
@@ -42,7 +43,7 @@ statusOfCommand bytes = statusOf (checkOf bytes)
 abbrev pub P : Type 0
 P =
     (replyTo fresh broadcastInit
-    ≡ some (0xff ∷ 0xff ∷ 0xff ∷ 0xff ∷ 0x86 ∷ 0x00 ∷ 0x11 ∷ 0x01 ∷ 0x02 ∷ 0x03 ∷ 0x04 ∷ 0x05 ∷ 0x06 ∷ 0x07 ∷ 0x08 ∷ 0x00 ∷ 0x00 ∷ 0x00 ∷ 0x01 ∷ 0x02 ∷ 0x01 ∷ 0x00 ∷ 0x00 ∷ 0x0c ∷ replicate 40 0))
+    ≡ some (0xff ∷ 0xff ∷ 0xff ∷ 0xff ∷ 0x86 ∷ 0x00 ∷ 0x11 ∷ 0x01 ∷ 0x02 ∷ 0x03 ∷ 0x04 ∷ 0x05 ∷ 0x06 ∷ 0x07 ∷ 0x08 ∷ 0x00 ∷ 0x00 ∷ 0x00 ∷ 0x01 ∷ 0x02 ∷ 0x01 ∷ 0x00 ∷ 0x00 ∷ 0x04 ∷ replicate 40 0))
     × (replyTo gatheringBy1 pingBy2 ≡ some (0x00 ∷ 0x00 ∷ 0x00 ∷ 0x02 ∷ 0xbf ∷ 0x00 ∷ 0x01 ∷ 0x06 ∷ replicate 56 0))
     × (packets 57 ≡ 1)
     × (packets 58 ≡ 2)

@@ -1,4 +1,5 @@
 // A payload that a transaction takes, and what a complete message becomes.
+use apdu::Apdu;
 use command::Checked;
 use state::Answer;
 use state::Outcome;
@@ -16,7 +17,7 @@ ghost use Prim.Native.Nat.{_≤_, _<_};
 ghost use lib.ListN.{length};
 ghost use Rattle.wire.specs.Cutting.{carries};
 ghost use Rattle.wire.specs.Packet.{firstRoom, laterRoom, longest, packets};
-ghost use Rattle.machine.specs.Machine.{beside, handed, judged, completed, taken};
+ghost use Rattle.machine.specs.Machine.{beside, handed, judged, passed, completed, taken};
 ghost use Rattle.machine.specs.Call.{effect, outcomeOf, asked};
 
 // Waiting for the core, with the next ticket, which the call reports.
@@ -56,32 +57,50 @@ fn judge(
     match found {
         Checked::Refused(status, _) => {
             message[0] = status;
-            let phase = Phase::Answering {
-                holder,
-                command,
-                size: 1,
-                done: 0,
-            };
-            outcomes::quiet(outcomes::in_phase(s, phase))
+            outcomes::answering(s, holder, command, 1)
         }
         Checked::Info => hand(s, holder, command, size),
         Checked::Good(_) => hand(s, holder, command, size),
     }
 }
 
-// The message stands complete in the buffer: PING is answering with its own bytes, CBOR is checked.
+// What the reading of an APDU leads to.
+fn pass(
+    s: State,
+    holder: Channel,
+    command: u8,
+    size: usize,
+    found: Apdu,
+    message: &mut [u8],
+) -> Outcome
+    requires { ⌜ longest ≤ length (now message) ⌝ }
+    ensures { λ r. ⌜ effect r [] (now (message .exit)) ≡ asked [] (beside (s .given) (passed (s .work) holder command size (now (message .entry)) found)) ⌝ }
+{
+    match found {
+        Apdu::HandedOn {
+            at: _,
+            size: _,
+            reply: _,
+        } => hand(s, holder, command, size),
+        Apdu::Status(high, low) => {
+            message[0] = high;
+            message[1] = low;
+            outcomes::answering(s, holder, command, 2)
+        }
+    }
+}
+
+// The message stands complete in the buffer: PING is answering with its own bytes, MSG is read as an APDU, CBOR is checked.
 fn complete(s: State, holder: Channel, command: u8, size: usize, message: &mut [u8]) -> Outcome
     requires { ⌜ (size ≤ longest) × (longest ≤ length (now message)) ⌝ }
     ensures { λ r. ⌜ effect r [] (now (message .exit)) ≡ asked [] (beside (s .given) (completed (s .work) holder command size (now (message .entry)))) ⌝ }
 {
     if command == packet::PING {
-        let phase = Phase::Answering {
-            holder,
-            command,
-            size,
-            done: 0,
-        };
-        return outcomes::quiet(outcomes::in_phase(s, phase));
+        return outcomes::answering(s, holder, command, size);
+    }
+    if command == packet::MSG {
+        let found = apdu::read(&message[..size]);
+        return pass(s, holder, command, size, found, message);
     }
     let found = command::check(&message[..size]);
     judge(s, holder, command, size, found, message)

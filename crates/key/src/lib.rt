@@ -14,7 +14,7 @@ ghost use mathlib.Core.List.{List, []};
 ghost use Prim.Native.Nat.{ℕ, _≤_, _<_};
 ghost use lib.ListN.{length};
 ghost use Rattle.wire.specs.Packet.{packetSize, longest, packets};
-ghost use Rattle.machine.specs.Machine.{beside, timeRows, deliverRows, advanced};
+ghost use Rattle.machine.specs.Machine.{beside, timeRows, lacksStatus, deliverRows, advanced};
 ghost use Rattle.machine.specs.Call.{effect, asked, packetCall, timeCall, deliverCall, fetchCall};
 
 mod continuing;
@@ -108,7 +108,18 @@ pub fn time_step(s: State, elapsed: u32, reply: &mut [u8]) -> Outcome
     }
 }
 
-// The delivery for a request that waits: taken where its ticket is the current one and its length is 1 to 7,609.
+// Whether an answer of n bytes to a MSG is short of its two status bytes, though it is not empty.
+fn lacks_status(command: u8, n: usize) -> bool
+    ensures { λ r. ⌜ r ≡ lacksStatus command n ⌝ }
+{
+    if command == packet::MSG {
+        n == 1
+    } else {
+        false
+    }
+}
+
+// The delivery for a request that waits: taken where its ticket is the current one and its length is 1 to 7,609, of a MSG 2 to 7,609.
 fn take_delivery(
     s: State,
     holder: Channel,
@@ -129,17 +140,14 @@ fn take_delivery(
     if bytes.len() == 0 {
         return outcomes::refused(s, 6);
     }
+    if lacks_status(command, bytes.len()) {
+        return outcomes::refused(s, 6);
+    }
     if bytes.len() > packet::LONGEST {
         return outcomes::refused(s, 6);
     }
     copying::copy_front(message, bytes);
-    let next = Phase::Answering {
-        holder,
-        command,
-        size: bytes.len(),
-        done: 0,
-    };
-    outcomes::quiet(outcomes::in_phase(s, next))
+    outcomes::answering(s, holder, command, bytes.len())
 }
 
 // The core's delivery for the request that has this ticket.

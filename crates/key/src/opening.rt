@@ -79,13 +79,7 @@ fn carry_out(v: Verdict, s: State, bytes: &[u8], reply: &mut [u8], message: &mut
         }
         Verdict::Cancelled => {
             message[0] = KEEPALIVE_CANCEL;
-            let phase = Phase::Answering {
-                holder: c,
-                command: packet::CBOR,
-                size: 1,
-                done: 0,
-            };
-            outcomes::quiet(outcomes::in_phase(s, phase))
+            outcomes::answering(s, c, packet::CBOR, 1)
         }
         Verdict::Opened => open_message(s, bytes, message),
     }

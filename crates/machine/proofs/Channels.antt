@@ -12,7 +12,7 @@ use Rattle.wire.specs.declared.Channel.{Channel}
 use Rattle.wire.specs.Packet.{channelOf, opens, commandOf, lengthOf, errorOn, initReply}
 use Rattle.wire.proofs.Sent.{init-command, init-on, init-channel}
 use Rattle.state.specs.declared.State.{State}
-use Rattle.state.specs.Table.{_⇒_else_, all-head, all-tail}
+use Rattle.rows.specs.Table.{_⇒_else_, all-head, all-tail}
 use Rattle.state.specs.Order.{channels, inOrder}
 use Rattle.state.proofs.Ordered.{count-in-order}
 use Rattle.table.specs.declared.Verdict.the-variants.{Error, NextChannel}

@@ -6,7 +6,7 @@ use mathlib.Core.Bool.{true}
 use mathlib.Core.List.{List, _∷_, _++_}
 use native.Mathlib.Numerals.{add-one}
 use native.Mathlib.Omega.{arith}
-use lib.ListN.{length, take, drop, length-drop, length-append}
+use lib.ListN.{length, take, drop}
 use lib.Seq.{take-at, length-take-le}
 use borrow.Author.Tests.{lt-ltb, le-ltb}
 use Rattle.wire.specs.declared.Channel.{Channel}
@@ -16,7 +16,7 @@ use Rattle.wire.proofs.Packets.{at-least-1}
 use Rattle.wire.proofs.Readings.{put-together}
 use Rattle.state.specs.declared.Phase.the-variants.{Idle, Answering}
 use Rattle.state.specs.declared.State.{State}
-use Rattle.state.specs.Table.{_⇒_else_}
+use Rattle.rows.specs.Table.{_⇒_else_}
 use Rattle.state.specs.Order.{inOrder}
 use Rattle.state.specs.Answers.{within}
 use Rattle.state.proofs.Ordered.{count-in-order, Message, answering-parts}
@@ -25,7 +25,7 @@ use Rattle.machine.specs.Machine.{fetch, quiet, says, completed, advance
 use Rattle.machine.specs.Run.{Run, run, sends, fetches, endsIn, repliesOf}
 use Rattle.machine.specs.Theorems.{Fetched, Echo}
 use Rattle.table.proofs.Verdicts.{good-length}
-use Rattle.machine.proofs.Gathering.{gathered-whole}
+use Rattle.machine.proofs.Gathering.{stored-length, answer-begins, gathered-whole}
 
 advanced-more : (h : Channel) (command n k : ℕ) → suc k < packets n → advanced h command n k ≡ Answering h command n (suc k)
 unfolding advanced _⇒_else_
@@ -86,11 +86,9 @@ echo s c n src m p space space′ q room =
     let s′ : State = within s (Answering c ping n 0) in
     let m′ : List ℕ = take n src ++ drop n m in
     let g : run s m (sends p space 0 (packets n)) ≡ endsIn (quiet s′ m′) (sends p space 0 (packets n)) = gathered-whole s c ping n src m p space q in
-    let o : inOrder s′ ≡ true =
-    state-made (s .given) (s′ .work) (count-in-order s (q .order))
-    (answering-made (record { is-known = q .channel; size = good-length ping n (q .size); more = at-least-1 n; opens = q .opens })) in
+    let o = answer-begins q n (good-length ping n (q .size)) in
     let l : length (take n src) ≡ n = length-take-le n src (q .bytes) in
-    let r = fetched s′ c ping n m′ space′ o refl (simp (length-append, length-drop) (omega (arith, q .message))) room in
+    let r = fetched s′ c ping n m′ space′ o refl (rw (stored-length q) (q .message)) room in
     rw g (
       refl,
       refl,

@@ -7,35 +7,33 @@ use mathlib.Core.Option.{none}
 use mathlib.Core.List.{List, _++_}
 use native.Mathlib.Numerals.{add-one}
 use native.Mathlib.Omega.{arith}
-use lib.ListN.{length, take, drop}
+use lib.ListN.{length, take, drop, length-drop, length-append}
 use lib.Seq.{take-at, length-take-le}
 use borrow.Author.Tests.{eq-eqb, lt-ltb, le-ltb}
 use Rattle.wire.specs.declared.Channel.{Channel}
 use Rattle.wire.specs.Cutting.{cut, put}
-use Rattle.wire.specs.Packet.{packetSize, firstRoom, laterRoom, longest, cbor, cancel, init, packets, firstPayload, laterPayload}
+use Rattle.wire.specs.Packet.{packetSize, firstRoom, laterRoom, longest, msg, cbor, packets, firstPayload, laterPayload}
 use Rattle.wire.specs.Roundtrip.{gathered, headerSize}
 use Rattle.wire.proofs.Packets.{at-most-129, at-least-1, starts-within}
 use Rattle.wire.proofs.Roundtrips.{roundtrip, put-length}
 use Rattle.wire.proofs.Readings.{puts-its-part, reads-channel, reads-opening, reads-command, reads-length, reads-number, reads-continuation}
 use Rattle.state.specs.declared.Phase.{Phase}
-use Rattle.state.specs.declared.Phase.the-variants.{Gathering}
+use Rattle.state.specs.declared.Phase.the-variants.{Gathering, Answering}
 use Rattle.state.specs.declared.Work.{Work}
 use Rattle.state.specs.declared.State.{State}
 use Rattle.state.specs.declared.Answer.the-variants.{Quiet}
-use Rattle.state.specs.Table.{_⇒_else_}
+use Rattle.rows.specs.Table.{_⇒_else_}
 use Rattle.state.specs.Order.{gatheringTime, inOrder}
 use Rattle.state.specs.Answers.{now, within}
 use Rattle.state.proofs.Ordered.{count-in-order, Message}
-use Rattle.state.proofs.Making.{starts-not, gathering-made, state-made}
-use Rattle.command.specs.declared.Checked.{Checked}
-use Rattle.command.specs.declared.Checked.the-variants as checked
-use Rattle.command.specs.Check.{checkOf}
+use Rattle.state.proofs.Making.{not-init, not-cancel, answering-made, gathering-made, state-made}
 use Rattle.table.specs.Opening.{openingRows, standingOf}
-use Rattle.machine.specs.Machine.{packet, Turn, quiet, at, beside, judged, completed, taken, carriedOut, opening, continuing, packetRows, lent, rows, step}
+use Rattle.machine.specs.Machine.{packet, Turn, quiet, at, beside, completed, taken, carriedOut, opening, continuing, packetRows, lent, rows, step}
 use Rattle.machine.specs.Run.{logged, run, sends, quietUntil, endsIn}
-use Rattle.machine.specs.Theorems.{Sending, Gathered, CommandGathered}
+use Rattle.machine.specs.Theorems.{Sending, Gathered, CommandGathered, ApduGathered}
 use Rattle.table.proofs.Verdicts.{good-length}
 use Rattle.machine.proofs.Steps.{step-rows}
+use Rattle.machine.proofs.Completed.{completed-now}
 use Rattle.machine.proofs.Replies.{below-broadcast, not-broadcast}
 
 -- ---- what a call does that is lent enough
@@ -51,18 +49,11 @@ taken-step s m p space o a b c = step-rows s m (packet p space) o (lent-enough p
 
 -- ---- a payload that is taken: what the work was doing and what stands behind the payload do not matter
 
-judged-now : (w : Work) (f : Phase) (h : Channel) (command n : ℕ) (m : List ℕ) (r : Checked) → judged (now w f) h command n m r ≡ judged w h command n m r
-unfolding judged
-judged-now w f h command n m (checked.Refused status place) = refl
-judged-now w f h command n m checked.Info = refl
-judged-now w f h command n m (checked.Good hash) = refl
-
 taken-as : (w : Work) (f : Phase) (h : Channel) (command n k left : ℕ) (payload payload′ m : List ℕ)
     → put firstRoom laterRoom n k payload m ≡ put firstRoom laterRoom n k payload′ m
     → taken (now w f) h command n k left payload m ≡ taken w h command n k left payload′ m
-unfolding taken completed
-taken-as w f h command n k left payload payload′ m e =
-    rw (e, judged-now w f h command n (put firstRoom laterRoom n k payload′ m) (checkOf (take n (put firstRoom laterRoom n k payload′ m))))
+unfolding taken
+taken-as w f h command n k left payload payload′ m e = rw (e, completed-now w f h command n (put firstRoom laterRoom n k payload′ m))
 
 taken-more : (w : Work) (h : Channel) (command n k left : ℕ) (payload m : List ℕ) → suc k < packets n
     → taken w h command n k left payload m ≡ quiet (now w (Gathering h command n (suc k) left)) (put firstRoom laterRoom n k payload m)
@@ -118,8 +109,8 @@ module _ (s : State) (c : Channel) (command n : ℕ) (src m : List ℕ) (p : ℕ
         q .idle,
         not-broadcast s c (q .order) (q .channel),
         q .channel,
-        starts-not command cancel (q .opens) refl refl,
-        starts-not command init (q .opens) refl refl,
+        not-cancel command (q .opens),
+        not-init command (q .opens),
         q .opens,
         q .size,
       )
@@ -197,6 +188,20 @@ module _ (s : State) (c : Channel) (command n : ℕ) (src m : List ℕ) (p : ℕ
       rw (first-step ∙ more 0 (omega arith))
       (ap (logged (record { event = packet (p 0) (space 0); answer = Quiet; reply = none })) (rest 0 j (omega arith)))
 
+-- what stands in the buffer then is no longer than it was, and an answer can begin
+pub stored-length : {s : State} {c : Channel} {command n : ℕ} {src m : List ℕ} {p : ℕ → List ℕ} {space : ℕ → ℕ}
+    → Sending s c command n src m p space → length (take n src ++ drop n m) ≡ length m
+stored-length {command = command} {n = n} {src = src} q =
+    let l = length-take-le n src (q .bytes) in
+    let k = good-length command n (q .size) in
+    simp (length-append, length-drop) (omega (arith, l, k, q .message))
+
+pub answer-begins : {s : State} {c : Channel} {command n : ℕ} {src m : List ℕ} {p : ℕ → List ℕ} {space : ℕ → ℕ}
+    → Sending s c command n src m p space → (size : ℕ) → size ≤ longest → inOrder (within s (Answering c command size 0)) ≡ true
+answer-begins {s = s} {c = c} {command = command} q size l =
+    state-made (s .given) (within s (Answering c command size 0) .work) (count-in-order s (q .order))
+    (answering-made (record { is-known = q .channel; size = l; more = at-least-1 size; opens = q .opens }))
+
 pub gathered-whole : Gathered
 unfolding last
 gathered-whole s c command n src m p space q = all-of s c command n src m p space q (packets n) refl
@@ -205,3 +210,8 @@ pub command-gathered : CommandGathered
 unfolding completed _⇒_else_
 command-gathered s c n src m p space q =
     rw (take-at (take n src) (drop n m) n (length-take-le n src (q .bytes))) at (gathered-whole s c cbor n src m p space q)
+
+pub apdu-gathered : ApduGathered
+unfolding completed _⇒_else_
+apdu-gathered s c n src m p space q =
+    rw (take-at (take n src) (drop n m) n (length-take-le n src (q .bytes))) at (gathered-whole s c msg n src m p space q)

@@ -9,7 +9,7 @@ use lib.ListN.{length}
 use Rattle.wire.specs.Packet.{initReply}
 use Rattle.state.specs.declared.State.{State}
 use Rattle.state.specs.declared.Answer.the-variants.{Refused}
-use Rattle.state.specs.Table.{_⇒_else_, all, cases}
+use Rattle.rows.specs.Table.{_⇒_else_, all, cases}
 use Rattle.state.specs.Order.{phaseInOrder, inOrder}
 use Rattle.machine.specs.Machine.{Event, Turn, refuses, fresh}
 use Rattle.machine.specs.Run.{turn, after}
@@ -46,7 +46,7 @@ unfolding after
 stays-in-order s [] o = o
 stays-in-order s (c ∷ cs) o = stays-in-order (turn s c .state) cs (step-kept s (c .message) (c .event) o .0)
 
-fresh-in : inOrder fresh ≡ true
+pub fresh-in : inOrder fresh ≡ true
 unfolding inOrder phaseInOrder all _⇒_else_
 fresh-in = refl
 

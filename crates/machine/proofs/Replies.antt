@@ -1,7 +1,7 @@
 -- What the replies of a key in order can be: one gives the next channel, and every other gives none and is 0x7F only to what asks for a
 -- channel when all are given.
 use Prim.Native.Nat.{ℕ, zero, suc, _+_, _≤_, _<_}
-use mathlib.Core.Path.{_≡_, refl, sym, ap, _∙_}
+use mathlib.Core.Path.{_≡_, sym, ap, _∙_}
 use mathlib.Core.Bool.{true, false}
 use mathlib.Core.List.{List, [], _∷_}
 use native.Mathlib.Omega.{arith}
@@ -15,7 +15,7 @@ use Rattle.wire.proofs.Sent.{sent-channel, sent-command, sent-no-command, error
 use Rattle.state.specs.declared.State.{State}
 use Rattle.state.specs.Order.{channels, known, inOrder}
 use Rattle.state.proofs.Ordered.{count-in-order, Message}
-use Rattle.state.proofs.Making.{starts-not, known-below}
+use Rattle.state.proofs.Making.{not-error, known-below}
 use Rattle.table.specs.Opening.{broadcast, isBroadcast}
 use Rattle.machine.specs.Machine.{Event, packet}
 use Rattle.machine.specs.Run.{spaceOf, asksForOne, Gives, Errs}
@@ -63,7 +63,7 @@ on-known s c x command n k bytes o q g =
 names-no-error : (s : State) (h : Channel) (command n k : ℕ) (m : List ℕ) → Message (s .given) h command n k
     → commandOf (packetOf h command n k m) ≡ error → ⊥
 names-no-error s h command n zero m q i =
-    eqb-false command error (starts-not command error (q .opens) refl refl) (sym (sent-command h command n m) ∙ i)
+    eqb-false command error (not-error command (q .opens)) (sym (sent-command h command n m) ∙ i)
 names-no-error s h command n (suc k) m q i =
     let j = sent-no-command h command n k m (omega (arith, q .more, at-most-129 n (q .size))) in
     omega arith

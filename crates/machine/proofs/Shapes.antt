@@ -13,19 +13,18 @@ use Rattle.state.specs.declared.Phase.{Phase}
 use Rattle.state.specs.declared.Phase.the-variants.{Idle, Gathering, Waiting, Answering}
 use Rattle.state.specs.declared.Work.{Work}
 use Rattle.state.specs.declared.State.{State}
-use Rattle.state.specs.Table.{cases, row, all-cons}
+use Rattle.rows.specs.Table.{cases, row, all-cons}
 use Rattle.state.specs.Order.{channels, inOrder}
 use Rattle.state.specs.Answers.{within}
 use Rattle.state.proofs.Ordered.{count-in-order, answering-parts}
-use Rattle.command.specs.declared.Checked.{Checked}
-use Rattle.command.specs.declared.Checked.the-variants as checked
 use Rattle.table.specs.Opening.{standingOf}
 use Rattle.table.proofs.Verdicts.{Grounds, grounds}
 use Rattle.table.specs.declared.Verdict.{Verdict}
 use Rattle.table.specs.declared.Verdict.the-variants.{Nothing, Error, Dropped, NextChannel, ThisChannel, Cancelled, Opened}
-use Rattle.machine.specs.Machine.{Event, packet, time, deliver, fetch, Turn, refuses, quiet, says, handed, at, beside, judged, completed, taken, carriedOut, opening, continuing, packetRows, timeRows, deliverRows, fetchRows, lent, rows, step}
+use Rattle.machine.specs.Machine.{Event, packet, time, deliver, fetch, Turn, refuses, quiet, says, handed, at, beside, taken, carriedOut, opening, continuing, packetRows, timeRows, deliverRows, fetchRows, lent, rows, step}
 use Rattle.machine.specs.Run.{spaceOf}
 use Rattle.machine.proofs.Steps.{step-cases, out-of-order, packet-lent, time-lent, fetch-lent}
+use Rattle.machine.proofs.Completed.{completed-cases}
 use Rattle.machine.proofs.Replies.{Full, Plain, Next, error-plain, init-plain, answer-plain, next-made}
 
 pub data Shape (s : State) (m : List ℕ) (e : Event) : Turn State → Type 0 where
@@ -50,16 +49,11 @@ module _ (s : State) (m : List ℕ) (e : Event) where
   unchanged : Shape s m e (quiet s m)
   unchanged = silence (s .work .phase) m
 
-  judged-shape : (h : Channel) (command n : ℕ) (m′ : List ℕ) (r : Checked) → Of (judged (s .work) h command n m′ r)
-  unfolding judged
-  judged-shape h command n m′ (checked.Refused status place) = silence _ _
-  judged-shape h command n m′ checked.Info = request h command n m′
-  judged-shape h command n m′ (checked.Good hash) = request h command n m′
-
   taken-shape : (h : Channel) (command n k left : ℕ) (payload : List ℕ) → Of (taken (s .work) h command n k left payload m)
-  unfolding taken completed
+  unfolding taken
   taken-shape h command n k left payload =
-      row Of _ _ _ (λ _. silence _ _) (λ _. row Of _ _ _ (λ _. silence _ _) (λ _. judged-shape h command n _ _))
+      row Of _ _ _ (λ _. silence _ _)
+      (λ _. completed-cases Of (s .work) h command n _ (λ _ _ _. silence _ _) (λ _. request h command n _))
 
   deliver-shape : (f : Phase) (ticket : Ticket) (bytes : List ℕ) → Of (deliverRows (s .work) f ticket bytes m)
   unfolding deliverRows
@@ -67,7 +61,7 @@ module _ (s : State) (m : List ℕ) (e : Event) where
   deliver-shape (Gathering h command n k left) ticket bytes = refusal 4 (λ _. omega arith)
   deliver-shape (Waiting h command n) ticket bytes =
       row Of _ _ _ (λ _. refusal 5 (λ _. omega arith)) (λ _. row Of _ _ _ (λ _. refusal 6 (λ _. omega arith))
-      (λ _. row Of _ _ _ (λ _. refusal 6 (λ _. omega arith)) (λ _. silence _ _)))
+      (λ _. row Of _ _ _ (λ _. refusal 6 (λ _. omega arith)) (λ _. row Of _ _ _ (λ _. refusal 6 (λ _. omega arith)) (λ _. silence _ _))))
   deliver-shape (Answering h command n k) ticket bytes = refusal 4 (λ _. omega arith)
 
   -- the rows that reply, where the state is in order and the reply buffer is long enough

@@ -9,7 +9,7 @@ use borrow.Author.Tests.{eqb-true, eqb-false, ltb-false, not-true, not-false}
 use Rattle.wire.specs.Packet.{packetSize, longest}
 use Rattle.state.specs.declared.Ticket.{Ticket}
 use Rattle.state.specs.declared.State.{State}
-use Rattle.state.specs.Table.{_⇒_else_, row}
+use Rattle.rows.specs.Table.{_⇒_else_, row}
 use Rattle.state.specs.Order.{inOrder}
 use Rattle.machine.specs.Machine.{Event, packet, time, deliver, fetch, Turn, refuses, lent, rows, step}
 

@@ -13,7 +13,7 @@ use Rattle.state.specs.declared.Phase.{Phase}
 use Rattle.state.specs.declared.Phase.the-variants.{Idle, Gathering, Waiting, Answering}
 use Rattle.state.specs.declared.Work.{Work}
 use Rattle.state.specs.declared.State.{State}
-use Rattle.state.specs.Table.{_⇒_else_, cases}
+use Rattle.rows.specs.Table.{_⇒_else_, cases}
 use Rattle.state.specs.Order.{channels, known, inOrder}
 use Rattle.state.proofs.Ordered.{gathering-parts, answering-parts}
 use Rattle.state.proofs.Making.{waiting-parts}
@@ -42,7 +42,7 @@ other : (h c : Channel) (f : Phase) → isHolder (standingOf f h) ≡ true → s
 unfolding standingOf ifHolder _⇒_else_
 other h c Idle a b = absurd (true≢false (sym a))
 other h c (Gathering k command n done left) a b = rw (apart h k c (if-holder k h Gathers a) b)
-other h c (Waiting k command n) a b = rw (apart h k c (if-holder k h Waits a) b)
+other h c (Waiting k command n) a b = rw (apart h k c (if-holder k h (Waits command) a) b)
 other h c (Answering k command n done) a b = rw (apart h k c (if-holder k h Answers a) b)
 
 known-as : (given : ℕ) (k h : Channel) → same k h ≡ true → known given k ≡ true → known given h ≡ true
@@ -55,7 +55,7 @@ unfolding standingOf
 holder-known h s Idle o e a = absurd (true≢false (sym a))
 holder-known h s (Gathering k command n done left) o e a =
     known-as (s .given) k h (if-holder k h Gathers a) (gathering-parts s k command n done left o e .message .is-known)
-holder-known h s (Waiting k command n) o e a = known-as (s .given) k h (if-holder k h Waits a) (waiting-parts s k command n o e .0)
+holder-known h s (Waiting k command n) o e a = known-as (s .given) k h (if-holder k h (Waits command) a) (waiting-parts s k command n o e .0)
 holder-known h s (Answering k command n done) o e a =
     known-as (s .given) k h (if-holder k h Answers a) (answering-parts s k command n done o e .is-known)
 

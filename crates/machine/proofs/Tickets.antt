@@ -15,7 +15,7 @@ use Rattle.state.specs.declared.Work.{Work}
 use Rattle.state.specs.declared.State.{State}
 use Rattle.state.specs.declared.Answer.{Answer}
 use Rattle.state.specs.declared.Answer.the-variants.{Refused, Quiet, Replied, Handed}
-use Rattle.state.specs.Table.{_⇒_else_, cases}
+use Rattle.rows.specs.Table.{_⇒_else_, cases}
 use Rattle.state.specs.Order.{inOrder}
 use Rattle.machine.specs.Machine.{Event, Turn, refuses, nextTicket, deliverRows, lent, rows, step}
 use Rattle.machine.specs.Run.{turn, after, waiting, lateNumber, requests, requestsIn}

@@ -15,18 +15,17 @@ use Rattle.state.specs.declared.Phase.{Phase}
 use Rattle.state.specs.declared.Phase.the-variants.{Idle, Gathering, Waiting, Answering}
 use Rattle.state.specs.declared.Work.{Work}
 use Rattle.state.specs.declared.State.{State}
-use Rattle.state.specs.Table.{_⇒_else_, cases, row}
+use Rattle.rows.specs.Table.{_⇒_else_, cases, row}
 use Rattle.state.specs.Order.{gatheringTime, inOrder}
 use Rattle.state.specs.Answers.{now}
 use Rattle.state.proofs.Ordered.{gathering-parts}
-use Rattle.command.specs.declared.Checked.{Checked}
-use Rattle.command.specs.declared.Checked.the-variants as checked
 use Rattle.table.specs.Opening.{same, isOther, isHolder, ifHolder, standingOf}
-use Rattle.machine.specs.Machine.{Event, packet, time, deliver, fetch, Turn, at, judged, completed, taken, carriedOut, opening, continuing, packetRows, timeRows, deliverRows, fetchRows, lent, rows, step}
+use Rattle.machine.specs.Machine.{Event, packet, time, deliver, fetch, Turn, at, taken, carriedOut, opening, continuing, packetRows, timeRows, deliverRows, fetchRows, lent, rows, step}
 use Rattle.machine.specs.Run.{Call, turn, gathering, gathers, spent, total, stillGathers}
 use Rattle.machine.specs.Theorems.{RunsDown, NoneOlder}
 use Rattle.table.proofs.Verdicts.{verdict-cases}
 use Rattle.machine.proofs.Steps.{step-cases}
+use Rattle.machine.proofs.Completed.{completed-cases}
 use Rattle.machine.proofs.Kept.{step-kept}
 
 -- ---- the milliseconds of an event that is not refused, and of one that is
@@ -55,18 +54,13 @@ module _ (h : Channel) (command n left : ℕ) where
   stays : (k : ℕ) → GoesOn h command n left 0 (Gathering h command n k left)
   stays k g = (k, left, refl, add-zero left)
 
-  judged-on : (w : Work) (m : List ℕ) (r : Checked) → GoesOn h command n left 0 (judged w h command n m r .state .phase)
-  unfolding judged
-  judged-on w m (checked.Refused status place) = ends 0 _ refl
-  judged-on w m checked.Info = ends 0 _ refl
-  judged-on w m (checked.Good hash) = ends 0 _ refl
-
   abbrev On : Turn Work → Type 0
   On t = GoesOn h command n left 0 (t .state .phase)
 
   taken-on : (w : Work) (k : ℕ) (payload m : List ℕ) → On (taken w h command n k left payload m)
-  unfolding taken completed
-  taken-on w k payload m = row On _ _ _ (λ _. stays (suc k)) (λ _. row On _ _ _ (λ _. ends 0 _ refl) (λ _. judged-on w _ _))
+  unfolding taken
+  taken-on w k payload m =
+      row On _ _ _ (λ _. stays (suc k)) (λ _. completed-cases On w h command n _ (λ _ _ _. ends 0 _ refl) (λ _. ends 0 _ refl))
 
   continuing-on : (w : Work) (k : ℕ) (m p : List ℕ) → On (continuing (now w (Gathering h command n k left)) (Gathering h command n k left) m p)
   unfolding continuing

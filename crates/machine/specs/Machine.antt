@@ -1,7 +1,7 @@
 -- Document 01's tables as one machine: a function from the state, the message bytes and an event to an answer, a reply packet, the
 -- state and the message bytes.
 use Prim.Native.Nat.{ℕ, suc, _+_, _-_, _%_, _^_}
-use mathlib.Core.Bool.{not}
+use mathlib.Core.Bool.{Bool, not, _&&_}
 use mathlib.Core.Option.{Option, none, some}
 use mathlib.Core.List.{List}
 use lib.ListN.{length, take, set}
@@ -9,7 +9,7 @@ use lib.Dec.{leb, ltb, eqb}
 use Rattle.wire.specs.declared.Channel.{Channel}
 use Rattle.wire.specs.Copying.{onto}
 use Rattle.wire.specs.Cutting.{put}
-use Rattle.wire.specs.Packet.{packetSize, firstRoom, laterRoom, longest, ping, cbor, packets, channelOf, opens, commandOf, lengthOf, firstPayload, numberOf, laterPayload, packetOf, errorOn, initReply}
+use Rattle.wire.specs.Packet.{packetSize, firstRoom, laterRoom, longest, ping, msg, cbor, packets, channelOf, opens, commandOf, lengthOf, firstPayload, numberOf, laterPayload, packetOf, errorOn, initReply}
 use Rattle.state.specs.declared.Ticket.{Ticket}
 use Rattle.state.specs.declared.Phase.{Phase}
 use Rattle.state.specs.declared.Phase.the-variants.{Idle, Gathering, Waiting, Answering}
@@ -17,9 +17,12 @@ use Rattle.state.specs.declared.Work.{Work}
 use Rattle.state.specs.declared.State.{State}
 use Rattle.state.specs.declared.Answer.{Answer}
 use Rattle.state.specs.declared.Answer.the-variants.{Refused, Quiet, Replied, Handed}
-use Rattle.state.specs.Table.{_⇒_else_}
+use Rattle.rows.specs.Table.{_⇒_else_}
 use Rattle.state.specs.Order.{gatheringTime, inOrder}
 use Rattle.state.specs.Answers.{now, within}
+use Rattle.apdu.specs.declared.Apdu.{Apdu}
+use Rattle.apdu.specs.declared.Apdu.the-variants.{HandedOn, Status}
+use Rattle.apdu.specs.Apdu.{apduOf}
 use Rattle.command.specs.declared.Checked.{Checked}
 use Rattle.command.specs.declared.Checked.the-variants as checked
 use Rattle.command.specs.Check.{checkOf}
@@ -82,10 +85,17 @@ judged w h command n m (checked.Refused status place) = quiet (now w (Answering 
 judged w h command n m checked.Info = handed w h command n m
 judged w h command n m (checked.Good hash) = handed w h command n m
 
--- PING is answering with its own bytes; CBOR is checked
+-- a good APDU is waiting likewise; to any other the key is answering with our own two status bytes, stored as bytes 0 and 1 of the buffer
+-- (request 2026-01)
+unfoldable pub passed : Work → Channel → ℕ → ℕ → List ℕ → Apdu → Turn Work
+passed w h command n m (HandedOn at size reply) = handed w h command n m
+passed w h command n m (Status high low) = quiet (now w (Answering h command 2 0)) (set (set m 0 high) 1 low)
+
+-- PING is answering with its own bytes; MSG is read as an APDU; CBOR is checked
 unfoldable pub completed : Work → Channel → ℕ → ℕ → List ℕ → Turn Work
 completed w h command n m =
     eqb command ping ⇒ quiet (now w (Answering h command n 0)) m else
+    eqb command msg ⇒ passed w h command n m (apduOf (take n m)) else
     judged w h command n m (checkOf (take n m))
 
 -- packet k's payload is copied; then more is to come, or the message is complete
@@ -142,6 +152,10 @@ timeRows w (Gathering h command n k left) ms m =
 timeRows w (Waiting h command n) ms m = quiet w m
 timeRows w (Answering h command n k) ms m = quiet w m
 
+-- an answer to MSG is data and two status bytes, so one byte is none (request 2026-01)
+unfoldable pub lacksStatus : ℕ → ℕ → Bool
+lacksStatus command n = eqb command msg && eqb n 1
+
 -- the core's bytes become the first bytes of the buffer and the key is answering
 unfoldable pub deliverRows : Work → Phase → Ticket → List ℕ → List ℕ → Turn Work
 deliverRows w Idle ticket bytes m = refuses 4 w m
@@ -149,6 +163,7 @@ deliverRows w (Gathering h command n k left) ticket bytes m = refuses 4 w m
 deliverRows w (Waiting h command n) ticket bytes m =
     not (eqb (ticket .0) (w .ticket .0)) ⇒ refuses 5 w m else
     eqb (length bytes) 0 ⇒ refuses 6 w m else
+    lacksStatus command (length bytes) ⇒ refuses 6 w m else
     ltb longest (length bytes) ⇒ refuses 6 w m else
     quiet (now w (Answering h command (length bytes) 0)) (onto bytes m)
 deliverRows w (Answering h command n k) ticket bytes m = refuses 4 w m

@@ -10,7 +10,7 @@ use Rattle.wire.specs.Packet.{init, cancel, channelOf, opens, commandOf, length
 use Rattle.state.specs.declared.State.{State}
 use Rattle.state.specs.declared.Answer.{Answer}
 use Rattle.state.specs.declared.Answer.the-variants.{Refused, Quiet, Replied}
-use Rattle.state.specs.Table.{_⇒_else_}
+use Rattle.rows.specs.Table.{_⇒_else_}
 use Rattle.state.specs.Order.{channels, known}
 use Rattle.table.specs.Opening.{same, isBroadcast, standingOf, isHolder}
 use Rattle.machine.specs.Machine.{Event, packet, time, deliver, fetch, at, lent, step}

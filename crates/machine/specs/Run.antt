@@ -13,7 +13,7 @@ use Rattle.state.specs.declared.Phase.the-variants.{Idle, Gathering, Waiting, A
 use Rattle.state.specs.declared.State.{State}
 use Rattle.state.specs.declared.Answer.{Answer}
 use Rattle.state.specs.declared.Answer.the-variants.{Refused, Quiet, Replied, Handed}
-use Rattle.state.specs.Table.{_⇒_else_, all}
+use Rattle.rows.specs.Table.{_⇒_else_, all}
 use Rattle.state.specs.Order.{inOrder}
 use Rattle.table.specs.Opening.{isBroadcast}
 use Rattle.machine.specs.Machine.{Event, packet, time, deliver, fetch, Turn, step}

@@ -3,21 +3,23 @@ use Prim.Native.Nat.{ℕ, _+_, _%_, _^_, _≤_, _<_}
 use mathlib.Core.Path.{_≡_}
 use mathlib.Core.Bool.{true, false}
 use mathlib.Core.Option.{some}
-use mathlib.Core.List.{List, _++_}
+use mathlib.Core.List.{List, [], _∷_, _++_}
 use lib.ListN.{length, take, drop}
 use Rattle.wire.specs.declared.Channel.{Channel}
-use Rattle.wire.specs.Packet.{packetSize, longest, ping, cbor, packets, channelOf, errorOn, initReply}
+use Rattle.wire.specs.Packet.{packetSize, longest, ping, msg, cbor, cancel, packets, channelOf, opens, commandOf, packetOf, errorOn, initReply}
 use Rattle.wire.specs.Roundtrip.{Brings, packetsOf, putTogether}
 use Rattle.state.specs.declared.Ticket.{Ticket}
-use Rattle.state.specs.declared.Phase.the-variants.{Idle, Gathering, Answering}
+use Rattle.state.specs.declared.Phase.the-variants.{Idle, Gathering, Waiting, Answering}
 use Rattle.state.specs.declared.State.{State}
 use Rattle.state.specs.declared.Answer.the-variants.{Refused, Quiet, Handed}
 use Rattle.state.specs.declared.Outcome.{Outcome}
 use Rattle.state.specs.Order.{channels, gatheringTime, known, starts, inOrder}
 use Rattle.state.specs.Answers.{within}
+use Rattle.apdu.specs.declared.Apdu.the-variants.{Status}
+use Rattle.apdu.specs.Apdu.{apduOf}
 use Rattle.command.specs.Check.{checkOf}
 use Rattle.table.specs.Opening.{broadcast, badLength}
-use Rattle.machine.specs.Machine.{Event, packet, deliver, refuses, says, at, beside, nextTicket, judged, completed, lent, step, fresh}
+use Rattle.machine.specs.Machine.{Event, packet, deliver, fetch, refuses, quiet, says, at, beside, nextTicket, judged, passed, completed, lent, step, fresh}
 use Rattle.machine.specs.Call.{Effect, effect}
 use Rattle.machine.specs.Run.{Call, turn, spaceOf, after, run, sends, fetches, endsIn, repliesOf, gathers, spent, total, stillGathers, lateNumber, requestsIn, asksForOne, Gives, Errs, Gets}
 use Rattle.machine.specs.Mix.{holds, mine, theirs, only, Keeps, countAfter, allowedAll, AsAlone, Alike, Merge, Every}
@@ -61,8 +63,8 @@ NeverSeven = (calls : List Call) (m : List ℕ) (e : Event) → step (after fres
 
 -- (`Roundtrip`, `PutTogether` and `Padded` of the crate wire say it of packets alone, over any payload sizes.)
 
--- the n bytes at the front of src are sent to an idle key on a known channel, as a PING of 0 to 7,609 bytes or a CBOR of 1 to 7,609:
--- p 0, p 1, .. are their packets, lent buffers are long enough
+-- the n bytes at the front of src are sent to an idle key on a known channel, as a PING of 0 to 7,609 bytes or as a MSG or CBOR of 1 to
+-- 7,609: p 0, p 1, .. are their packets, lent buffers are long enough
 pub record Sending (s : State) (c : Channel) (command n : ℕ) (src m : List ℕ) (p : ℕ → List ℕ) (space : ℕ → ℕ) : Type 0 where
   pub order : inOrder s ≡ true
   pub idle : s .work .phase ≡ Idle
@@ -89,6 +91,13 @@ CommandGathered =
     → run s m (sends p space 0 (packets n))
     ≡ endsIn (beside (s .given) (judged (s .work) c cbor n (take n src ++ drop n m) (checkOf (take n src)))) (sends p space 0 (packets n))
 
+-- and so is the APDU that is read
+abbrev pub ApduGathered : Type 0
+ApduGathered =
+    (s : State) (c : Channel) (n : ℕ) (src m : List ℕ) (p : ℕ → List ℕ) (space : ℕ → ℕ) → Sending s c msg n src m p space
+    → run s m (sends p space 0 (packets n))
+    ≡ endsIn (beside (s .given) (passed (s .work) c msg n (take n src ++ drop n m) (apduOf (take n src)))) (sends p space 0 (packets n))
+
 -- a reply, fetched to its end, comes in its packets, which are that reply when they are put together again; after the last the key is
 -- idle, and the message buffer is as it was
 abbrev pub Fetched : Type 0
@@ -114,6 +123,31 @@ Echo =
     × (r .message ≡ take n src ++ drop n m)
     × (r′ .state ≡ s)
     × ((buffer : List ℕ) → putTogether n 0 (repliesOf (r′ .log)) buffer ≡ take n src ++ drop n buffer)
+
+-- ---- MSG (request 2026-01)
+
+-- what is no good APDU gets our own two status bytes: after its packets the key is answering, and one fetch brings them and leaves the key
+-- as it was before
+abbrev pub OwnStatus : Type 0
+OwnStatus =
+    (s : State) (c : Channel) (n : ℕ) (src m : List ℕ) (p : ℕ → List ℕ) (space : ℕ → ℕ) (space′ high low : ℕ)
+    → Sending s c msg n src m p space → apduOf (take n src) ≡ Status high low → packetSize ≤ space′
+    → let r = run s m (sends p space 0 (packets n)) in
+    let r′ = run (r .state) (r .message) (fetch space′ ∷ []) in
+    (r .state ≡ within s (Answering c msg 2 0))
+    × (r′ .state ≡ s)
+    × (repliesOf (r′ .log) ≡ packetOf c msg 2 0 (high ∷ low ∷ []) ∷ [])
+
+-- CANCEL while MSG waits does nothing, whichever known channel sends it
+abbrev pub CancelDoesNothing : Type 0
+CancelDoesNothing =
+    (s : State) (m p : List ℕ) (space : ℕ) (h : Channel) (n : ℕ) → inOrder s ≡ true → lent (packet p space) (length m) ≡ 0
+    → s .work .phase ≡ Waiting h msg n → opens p ≡ true → commandOf p ≡ cancel → known (s .given) (channelOf p) ≡ true
+    → step s m (packet p space) ≡ quiet s m
+
+-- an answer to MSG has its two status bytes, whatever calls are made of a fresh key
+abbrev pub TwoStatusBytes : Type 0
+TwoStatusBytes = (calls : List Call) (h : Channel) (n k : ℕ) → after fresh calls .work .phase ≡ Answering h msg n k → 2 ≤ n
 
 -- ---- strangers (demand 3)
 

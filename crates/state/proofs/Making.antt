@@ -1,18 +1,18 @@
 -- States in order, made from their parts; one channel more leaves a state in order. Assumes nothing.
 use Prim.Native.Nat.{ℕ, _+_, _≤_, _<_}
-use mathlib.Core.Path.{_≡_, refl, sym}
+use mathlib.Core.Path.{_≡_, refl, sym, _∙_}
 use mathlib.Core.Bool.{Bool, true, false, true≢false}
 use mathlib.Core.List.{List, _∷_}
 use native.Mathlib.Omega.{arith}
 use lib.Dec.{leb, eqb}
 use borrow.Author.Tests.{eqb-true, leb-true, le-leb, lt-ltb}
 use Rattle.wire.specs.declared.Channel.{Channel}
-use Rattle.wire.specs.Packet.{longest, ping, cbor, packets}
+use Rattle.wire.specs.Packet.{longest, ping, init, cbor, cancel, error, packets}
 use Rattle.state.specs.declared.Phase.{Phase}
 use Rattle.state.specs.declared.Phase.the-variants.{Idle, Gathering, Waiting, Answering}
 use Rattle.state.specs.declared.Work.{Work}
 use Rattle.state.specs.declared.State.{State}
-use Rattle.state.specs.Table.{_⇒_else_, all, cases, all-head, all-cons, all-tail}
+use Rattle.rows.specs.Table.{_⇒_else_, all, cases, all-head, all-cons, all-tail}
 use Rattle.state.specs.Order.{channels, gatheringTime, known, starts, toCore, messageInOrder, phaseInOrder, inOrder}
 use Rattle.state.proofs.Ordered.{phase-in-order, Message, Gathered}
 
@@ -20,17 +20,32 @@ use Rattle.state.proofs.Ordered.{phase-in-order, Message, Gathered}
 
 -- a command that opens a transaction and is no PING goes to the core; one that goes to the core opens one
 pub not-ping : (command : ℕ) → starts command ≡ true → eqb command ping ≡ false → toCore command ≡ true
-unfolding starts toCore
+unfolding starts
 not-ping command s e = rw e at s
 
 pub core-starts : (command : ℕ) → toCore command ≡ true → starts command ≡ true
-unfolding starts toCore
+unfolding starts
 core-starts command e = cases (eqb command ping) (λ x. rw x) (λ x. rw (x, e))
 
-pub starts-not : (command x : ℕ) → starts command ≡ true → eqb ping x ≡ false → eqb cbor x ≡ false → eqb command x ≡ false
-unfolding starts
-starts-not command x s a b =
-    cases (eqb command ping) (λ e. rw (eqb-true command ping e) a) (λ e. rw (eqb-true command cbor (rw e at s)) b)
+-- one that opens a transaction is none that opens none: neither INIT nor CANCEL, and no error
+starts-not : (command x : ℕ) → starts command ≡ true → starts x ≡ false → eqb command x ≡ false
+starts-not command x s n = cases (eqb command x) (λ e. absurd (true≢false (sym s ∙ rw (eqb-true command x e) n))) (λ e. e)
+
+pub not-init : (command : ℕ) → starts command ≡ true → eqb command init ≡ false
+unfolding starts toCore
+not-init command s = starts-not command init s refl
+
+pub not-cancel : (command : ℕ) → starts command ≡ true → eqb command cancel ≡ false
+unfolding starts toCore
+not-cancel command s = starts-not command cancel s refl
+
+pub not-error : (command : ℕ) → starts command ≡ true → eqb command error ≡ false
+unfolding starts toCore
+not-error command s = starts-not command error s refl
+
+pub core-cbor : toCore cbor ≡ true
+unfolding toCore
+core-cbor = refl
 
 -- ---- phases
 

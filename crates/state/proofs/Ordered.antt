@@ -6,12 +6,12 @@ use native.Mathlib.Omega.{arith}
 use lib.Dec.{eqb}
 use borrow.Author.Tests.{leb-true, ltb-true, eqb-true}
 use Rattle.wire.specs.declared.Channel.{Channel}
-use Rattle.wire.specs.Packet.{longest, ping, cbor, packets}
+use Rattle.wire.specs.Packet.{longest, ping, msg, cbor, packets}
 use Rattle.state.specs.declared.Phase.{Phase}
 use Rattle.state.specs.declared.Phase.the-variants.{Gathering, Answering}
 use Rattle.state.specs.declared.State.{State}
-use Rattle.state.specs.Table.{cases, all-head, all-tail}
-use Rattle.state.specs.Order.{channels, gatheringTime, known, starts, messageInOrder, phaseInOrder, inOrder}
+use Rattle.rows.specs.Table.{cases, all-head, all-tail}
+use Rattle.state.specs.Order.{channels, gatheringTime, known, toCore, starts, messageInOrder, phaseInOrder, inOrder}
 
 -- no more channels than there are to give
 pub count-in-order : (s : State) → inOrder s ≡ true → s .given ≤ channels
@@ -24,11 +24,13 @@ phase-in-order s f o e = rw e at (all-head _ _ (all-tail _ _ o))
 
 -- a command that opens a transaction has no high bit
 pub starts-small : (command : ℕ) → starts command ≡ true → command < 128
-unfolding starts
+unfolding starts toCore
 starts-small command e =
     cases (eqb command ping)
     (λ a. let i = eqb-true command ping a in omega arith)
-    (λ a. let i = eqb-true command cbor (rw a at e) in omega arith)
+    (λ a. cases (eqb command msg)
+    (λ b. let i = eqb-true command msg b in omega arith)
+    (λ b. let i = eqb-true command cbor (rw (a, b) at e) in omega arith))
 
 -- a message that is gathered or answered
 pub record Message (given : ℕ) (h : Channel) (command n done : ℕ) : Type 0 where

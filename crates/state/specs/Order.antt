@@ -4,11 +4,11 @@ use mathlib.Core.Bool.{Bool, true, _&&_, _||_}
 use mathlib.Core.List.{[], _∷_}
 use lib.Dec.{leb, ltb, eqb}
 use Rattle.wire.specs.declared.Channel.{Channel}
-use Rattle.wire.specs.Packet.{longest, ping, cbor, packets}
+use Rattle.wire.specs.Packet.{longest, ping, msg, cbor, packets}
 use Rattle.state.specs.declared.Phase.{Phase}
 use Rattle.state.specs.declared.Phase.the-variants.{Idle, Gathering, Waiting, Answering}
 use Rattle.state.specs.declared.State.{State}
-use Rattle.state.specs.Table.{all}
+use Rattle.rows.specs.Table.{all}
 
 -- channels are given as 1, 2, 3 and on, at most so many (request 2026-10): every number but 0 and broadcast
 abbrev pub channels : ℕ
@@ -22,12 +22,12 @@ gatheringTime = 3000
 unfoldable pub known : ℕ → Channel → Bool
 known given c = leb 1 (c .0) && leb (c .0) given
 
--- the commands that open a transaction, and those of them that go to the core
-unfoldable pub starts : ℕ → Bool
-starts command = eqb command ping || eqb command cbor
-
+-- the commands that go to the core (MSG by request 2026-01), and those that open a transaction: these and PING
 unfoldable pub toCore : ℕ → Bool
-toCore command = eqb command cbor
+toCore command = eqb command msg || eqb command cbor
+
+unfoldable pub starts : ℕ → Bool
+starts command = eqb command ping || toCore command
 
 -- gathering or answering: a holder among those given, a message of at most 7,609 bytes, fewer packets done than it needs, a command
 -- that opens a transaction

@@ -19,6 +19,17 @@ pub fn is_known(given: u32, c: Channel) -> bool
     if 1 <= c.0 { c.0 <= given } else { false }
 }
 
+// Whether a command goes to the core.
+pub fn goes_to_core(command: u8) -> bool
+    ensures { λ r. ⌜ r ≡ toCore command ⌝ }
+{
+    if command == packet::MSG {
+        true
+    } else {
+        command == packet::CBOR
+    }
+}
+
 // Whether a command opens a transaction.
 pub fn opens_one(command: u8) -> bool
     ensures { λ r. ⌜ r ≡ starts command ⌝ }
@@ -26,15 +37,8 @@ pub fn opens_one(command: u8) -> bool
     if command == packet::PING {
         true
     } else {
-        command == packet::CBOR
+        goes_to_core(command)
     }
-}
-
-// Whether a command goes to the core.
-pub fn goes_to_core(command: u8) -> bool
-    ensures { λ r. ⌜ r ≡ toCore command ⌝ }
-{
-    command == packet::CBOR
 }
 
 fn message_in_order(given: u32, holder: Channel, command: u8, size: usize, done: usize) -> bool

@@ -4,6 +4,7 @@ use crate::Outcome;
 use crate::Phase;
 use crate::State;
 use crate::Work;
+use wire::Channel;
 ghost use mathlib.Core.Path.{_≡_};
 ghost use Rattle.state.specs.Answers.{numberOf, within, refusing, quietly, replying};
 
@@ -49,6 +50,19 @@ pub fn quiet(s: State) -> Outcome
         answer: Answer::Quiet,
         state: s,
     }
+}
+
+// A call that begins an answer of so many bytes, of which no packet is done.
+pub fn answering(s: State, holder: Channel, command: u8, size: usize) -> Outcome
+    ensures { λ r. ⌜ r ≡ quietly (within s (Phase.Answering holder command size 0)) ⌝ }
+{
+    let phase = Phase::Answering {
+        holder,
+        command,
+        size,
+        done: 0,
+    };
+    quiet(in_phase(s, phase))
 }
 
 // A call with a reply packet.

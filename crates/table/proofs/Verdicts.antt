@@ -8,12 +8,12 @@ use lib.Dec.{leb, ltb, eqb}
 use borrow.Author.Tests.{not-false, ltb-false}
 use Rattle.wire.specs.declared.Channel.{Channel}
 use Rattle.wire.specs.Packet.{longest, init, cancel}
-use Rattle.state.specs.Table.{_⇒_else_, all, cases, row, all-head, all-tail}
+use Rattle.rows.specs.Table.{_⇒_else_, all, cases, row, all-head, all-tail}
 use Rattle.state.specs.Order.{channels, known, starts}
 use Rattle.table.specs.declared.Standing.{Standing}
 use Rattle.table.specs.declared.Verdict.{Verdict}
 use Rattle.table.specs.declared.Verdict.the-variants.{Nothing, Error, Dropped, NextChannel, ThisChannel, Cancelled, Opened}
-use Rattle.table.specs.Opening.{isBroadcast, isOther, isWaiting, isHolder, badLength, openingRows}
+use Rattle.table.specs.Opening.{isBroadcast, isOther, waitsOnCbor, isHolder, badLength, openingRows}
 
 -- of a test `a && b`: it holds, so both do; it fails where a holds, so b fails
 first : (a b : Bool) → a && b ≡ true → a ≡ true
@@ -58,7 +58,7 @@ module _ (given : ℕ) (at : Standing) (c : Channel) (command n : ℕ) where
   Grounds (Dropped code) = AllGiven code
   Grounds NextChannel = Asks c command n × (leb channels given ≡ false)
   Grounds ThisChannel = known given c ≡ true
-  Grounds Cancelled = (known given c ≡ true) × (isWaiting at ≡ true)
+  Grounds Cancelled = (known given c ≡ true) × (waitsOnCbor at ≡ true)
   Grounds Opened =
       (known given c ≡ true) × (isOther at ≡ false) × (isHolder at ≡ false) × (starts command ≡ true) × (badLength command n ≡ false)
 
@@ -91,7 +91,7 @@ pub verdict-cases : (P : Verdict → Type 0) (given : ℕ) (at : Standing) (c : 
     → ((code : ℕ) → P (Dropped code))
     → (isBroadcast c ≡ true → leb channels given ≡ false → P NextChannel)
     → P ThisChannel
-    → (known given c ≡ true → isWaiting at ≡ true → P Cancelled)
+    → (known given c ≡ true → waitsOnCbor at ≡ true → P Cancelled)
     → (known given c ≡ true → isOther at ≡ false → isHolder at ≡ false → starts command ≡ true → badLength command n ≡ false → P Opened)
     → P (openingRows given at c command n)
 verdict-cases P given at c command n nothing error dropped next this cancelled opened = by (openingRows given at c command n) (grounds given at c command n)

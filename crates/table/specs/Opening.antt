@@ -3,10 +3,10 @@ use Prim.Native.Nat.{ℕ}
 use mathlib.Core.Bool.{Bool, true, false, not, _&&_, _||_}
 use lib.Dec.{ltb, leb, eqb}
 use Rattle.wire.specs.declared.Channel.{Channel}
-use Rattle.wire.specs.Packet.{longest, init, cancel}
+use Rattle.wire.specs.Packet.{longest, init, cbor, cancel}
 use Rattle.state.specs.declared.Phase.{Phase}
 use Rattle.state.specs.declared.Phase.the-variants.{Idle, Gathering, Waiting, Answering}
-use Rattle.state.specs.Table.{_⇒_else_}
+use Rattle.rows.specs.Table.{_⇒_else_}
 use Rattle.state.specs.Order.{channels, known, starts, toCore}
 use Rattle.table.specs.declared.Standing.{Standing}
 use Rattle.table.specs.declared.Standing.the-variants.{Free, Other, Gathers, Waits, Answers}
@@ -30,7 +30,7 @@ ifHolder holder c mine = same holder c ⇒ mine else Other
 unfoldable pub standingOf : Phase → Channel → Standing
 standingOf Idle c = Free
 standingOf (Gathering h command n done left) c = ifHolder h c Gathers
-standingOf (Waiting h command n) c = ifHolder h c Waits
+standingOf (Waiting h command n) c = ifHolder h c (Waits command)
 standingOf (Answering h command n done) c = ifHolder h c Answers
 
 -- another channel holds the key
@@ -38,7 +38,7 @@ abbrev pub isOther : Standing → Bool
 isOther Free = false
 isOther Other = true
 isOther Gathers = false
-isOther Waits = false
+isOther (Waits command) = false
 isOther Answers = false
 
 -- the holder, gathering
@@ -46,28 +46,28 @@ abbrev pub isGathering : Standing → Bool
 isGathering Free = false
 isGathering Other = false
 isGathering Gathers = true
-isGathering Waits = false
+isGathering (Waits command) = false
 isGathering Answers = false
 
--- the holder, while waiting
-abbrev pub isWaiting : Standing → Bool
-isWaiting Free = false
-isWaiting Other = false
-isWaiting Gathers = false
-isWaiting Waits = true
-isWaiting Answers = false
+-- the holder, while a CBOR command waits: CANCEL does nothing to a MSG (request 2026-01)
+abbrev pub waitsOnCbor : Standing → Bool
+waitsOnCbor Free = false
+waitsOnCbor Other = false
+waitsOnCbor Gathers = false
+waitsOnCbor (Waits command) = eqb command cbor
+waitsOnCbor Answers = false
 
 -- the holder
 abbrev pub isHolder : Standing → Bool
 isHolder Free = false
 isHolder Other = false
 isHolder Gathers = true
-isHolder Waits = true
+isHolder (Waits command) = true
 isHolder Answers = true
 
 -- ---- the table
 
--- length over 7,609, or CBOR with 0
+-- length over 7,609, or a command for the core with 0
 unfoldable pub badLength : ℕ → ℕ → Bool
 badLength command n = ltb longest n || (toCore command && eqb n 0)
 
@@ -79,7 +79,7 @@ openingRows given at c command n =
     (isBroadcast c && leb channels given) ⇒ Error 0x7F else
     isBroadcast c ⇒ NextChannel else
     not (known given c) ⇒ Error 0x0B else
-    (eqb command cancel && isWaiting at) ⇒ Cancelled else
+    (eqb command cancel && waitsOnCbor at) ⇒ Cancelled else
     eqb command cancel ⇒ Nothing else
     isOther at ⇒ Error 0x06 else
     (eqb command init && not (eqb n 8)) ⇒ Error 0x03 else

@@ -6,7 +6,7 @@ use wire::packet;
 ghost use mathlib.Core.Path.{_≡_};
 ghost use mathlib.Core.Bool.{true, false};
 ghost use Rattle.state.specs.Order.{known};
-ghost use Rattle.table.specs.Opening.{same, ifHolder, standingOf, isOther, isGathering, isWaiting, isHolder, isBroadcast, badLength, openingRows};
+ghost use Rattle.table.specs.Opening.{same, ifHolder, standingOf, isOther, isGathering, waitsOnCbor, isHolder, isBroadcast, badLength, openingRows};
 
 // The error codes of document 01.
 pub const INVALID_COMMAND: u8 = 0x01;
@@ -28,12 +28,13 @@ const BROADCAST: u32 = 0xFFFFFFFF;
 // An INIT carries a nonce of 8 bytes.
 const NONCE: usize = 8;
 
-// How a packet's channel stands to the key: it is idle, another channel holds it, or this one does and gathers, waits or answers.
+// How a packet's channel stands to the key: it is idle, another channel holds it, or this one does and
+// gathers, waits on a command or answers.
 pub enum Standing {
     Free,
     Other,
     Gathers,
-    Waits,
+    Waits(u8),
     Answers,
 }
 
@@ -63,7 +64,7 @@ impl Standing {
             Standing::Free => false,
             Standing::Other => true,
             Standing::Gathers => false,
-            Standing::Waits => false,
+            Standing::Waits(_) => false,
             Standing::Answers => false,
         }
     }
@@ -75,19 +76,19 @@ impl Standing {
             Standing::Free => false,
             Standing::Other => false,
             Standing::Gathers => true,
-            Standing::Waits => false,
+            Standing::Waits(_) => false,
             Standing::Answers => false,
         }
     }
 
-    fn waits(self) -> bool
-        ensures { λ r. ⌜ r ≡ isWaiting self ⌝ }
+    fn waits_on_cbor(self) -> bool
+        ensures { λ r. ⌜ r ≡ waitsOnCbor self ⌝ }
     {
         match self {
             Standing::Free => false,
             Standing::Other => false,
             Standing::Gathers => false,
-            Standing::Waits => true,
+            Standing::Waits(command) => command == packet::CBOR,
             Standing::Answers => false,
         }
     }
@@ -99,7 +100,7 @@ impl Standing {
             Standing::Free => false,
             Standing::Other => false,
             Standing::Gathers => true,
-            Standing::Waits => true,
+            Standing::Waits(_) => true,
             Standing::Answers => true,
         }
     }
@@ -137,9 +138,9 @@ pub fn stands(f: Phase, c: Channel) -> Standing
         } => { if_holder(holder, c, Standing::Gathers) }
         Phase::Waiting {
             holder,
-            command: _,
+            command,
             size: _,
-        } => if_holder(holder, c, Standing::Waits),
+        } => if_holder(holder, c, Standing::Waits(command)),
         Phase::Answering {
             holder,
             command: _,
@@ -149,7 +150,7 @@ pub fn stands(f: Phase, c: Channel) -> Standing
     }
 }
 
-// Length over 7,609, or CBOR with 0.
+// Length over 7,609, or a command for the core with 0.
 fn has_bad_length(command: u8, length: usize) -> bool
     ensures { λ r. ⌜ r ≡ badLength command length ⌝ }
 {
@@ -190,7 +191,7 @@ fn decide_known(given: u32, at: Standing, c: Channel, command: u8, length: usize
     ensures { λ r. ⌜ r ≡ openingRows given at c command length ⌝ }
 {
     if command == packet::CANCEL {
-        if at.waits() {
+        if at.waits_on_cbor() {
             return Verdict::Cancelled;
         }
         return Verdict::Nothing;

@@ -25,6 +25,9 @@ longest = 7609
 abbrev pub ping : ℕ
 ping = 0x01
 
+abbrev pub msg : ℕ
+msg = 0x03
+
 abbrev pub init : ℕ
 init = 0x06
 
@@ -92,6 +95,6 @@ packetOf c command n (suc k) buffer = filled (bytes4 (c .0) ++ (k ∷ []) ++ cut
 unfoldable pub errorOn : Channel → ℕ → List ℕ
 errorOn c code = packetOf c error 1 0 (code ∷ [])
 
--- INIT reply on the packet's channel: length 17, being the 8 nonce bytes, the channel, then 02 01 00 00 0c
+-- INIT reply on the packet's channel: length 17, being the 8 nonce bytes, the channel, then 02 01 00 00 04 (request 2026-01)
 unfoldable pub initReply : List ℕ → Channel → List ℕ
-initReply p c = packetOf (channelOf p) init 17 0 (take 8 (firstPayload p) ++ (bytes4 (c .0) ++ (0x02 ∷ 0x01 ∷ 0x00 ∷ 0x00 ∷ 0x0c ∷ [])))
+initReply p c = packetOf (channelOf p) init 17 0 (take 8 (firstPayload p) ++ (bytes4 (c .0) ++ (0x02 ∷ 0x01 ∷ 0x00 ∷ 0x00 ∷ 0x04 ∷ [])))

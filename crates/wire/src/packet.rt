@@ -22,6 +22,8 @@ pub const LONGEST: usize = 7609;
 // The commands that a header may name.
 pub const PING: u8 = 0x01;
 
+pub const MSG: u8 = 0x03;
+
 pub const INIT: u8 = 0x06;
 
 pub const CBOR: u8 = 0x10;
@@ -144,7 +146,7 @@ pub fn error_on(c: Channel, code: u8) -> [u8; 64]
     packet_of(c, ERROR, 1, 0, &content)
 }
 
-// INIT reply on the packet's channel: its 8 nonce bytes, the channel, then protocol 2, device 1.0.0, flags CBOR and no MSG.
+// INIT reply on the packet's channel: its 8 nonce bytes, the channel, then protocol 2, device 1.0.0, flags 04: CBOR and MSG.
 pub fn init_reply(packet: &[u8], given: Channel) -> [u8; 64]
     requires { ⌜ packetSize ≤ length (now packet) ⌝ }
     ensures { λ r. ⌜ r ≡ initReply (now (packet .entry)) given ⌝ }
@@ -157,7 +159,7 @@ pub fn init_reply(packet: &[u8], given: Channel) -> [u8; 64]
     content[11] = (n % 256) as u8;
     content[12] = 0x02;
     content[13] = 0x01;
-    content[16] = 0x0c;
+    content[16] = 0x04;
     copying::copy_at(&mut content, 0, &packet[7..15]);
     packet_of(channel_of(packet), INIT, 17, 0, &content)
 }

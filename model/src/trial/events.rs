@@ -1,11 +1,12 @@
 //! The events of a script: packets of the holder and of strangers, time, and the core.
 
+use super::apdus;
 use super::commands;
 use super::writer::Writer;
 use super::LENGTHS;
 use crate::key::{Transaction, GATHERING_TIME};
 use crate::packet::{
-    part_carried, write, Channel, BROADCAST, CANCEL, CBOR, INIT, LONGEST, PACKET, PING,
+    part_carried, write, Channel, BROADCAST, CANCEL, CBOR, INIT, LONGEST, MSG, PACKET, PING,
 };
 
 impl Writer {
@@ -98,6 +99,12 @@ impl Writer {
         held.map(|message| message.holder)
     }
 
+    /// Whether the transaction is a MSG, to which a delivery has two bytes at least.
+    fn is_msg(&self) -> bool {
+        let held = self.bench.key.transaction.message();
+        held.is_some_and(|message| message.command == MSG)
+    }
+
     /// A channel that is given, often one of the first few.
     fn given_channel(&mut self) -> Channel {
         let channels = self.bench.key.channels.max(1);
@@ -124,7 +131,7 @@ impl Writer {
     fn random_command(&mut self) -> u8 {
         let any = self.random.below(128) as u8;
         self.random
-            .pick(&[PING, CBOR, INIT, CANCEL, 0x03, 0x04, 0x08, 0x3B, 0x3F, any])
+            .pick(&[PING, CBOR, INIT, CANCEL, MSG, 0x04, 0x08, 0x3B, 0x3F, any])
     }
 
     // Packets
@@ -161,7 +168,7 @@ impl Writer {
     }
 
     /// Broadcast: a good INIT, or one of the other rows.
-    fn greeting(&mut self) {
+    pub(super) fn greeting(&mut self) {
         let nonce = self.random.bytes(8);
         match self.random.below(8) {
             0 => {
@@ -180,24 +187,36 @@ impl Writer {
     fn opening(&mut self) {
         self.calm = self.random.once_in(2);
         let channel = self.given_channel();
-        let command = self.random.pick(&[PING, CBOR, CBOR]);
-        self.message = if command == PING {
-            let length = match self.random.below(3) {
-                0 => self.random.below(300),
-                _ => self.random.pick(&LENGTHS),
-            };
-            self.random.bytes(length)
-        } else {
-            let message = commands::command(&mut self.random);
-            if message.is_empty() {
-                vec![0x04]
-            } else {
-                message
+        let command = self.random.pick(&[PING, CBOR, CBOR, MSG]);
+        self.message = self.message_of(command);
+        self.first_packet(channel, command, &self.message.clone());
+    }
+
+    /// The packet that opens this message.
+    fn first_packet(&mut self, channel: Channel, command: u8, message: &[u8]) {
+        let payload = &message[part_carried(0, message.len())];
+        self.opening_packet(channel, command, message.len() as u16, payload);
+    }
+
+    /// A message that this command can open: only PING can have no bytes.
+    fn message_of(&mut self, command: u8) -> Vec<u8> {
+        let random = &mut self.random;
+        let message = match command {
+            PING => {
+                let length = match random.below(3) {
+                    0 => random.below(300),
+                    _ => random.pick(&LENGTHS),
+                };
+                return random.bytes(length);
             }
+            MSG => apdus::any(random),
+            _ => commands::command(random),
         };
-        let length = self.message.len();
-        let payload = self.message[part_carried(0, length)].to_vec();
-        self.opening_packet(channel, command, length as u16, &payload);
+        if message.is_empty() {
+            vec![0x04]
+        } else {
+            message
+        }
     }
 
     /// An opening on an idle key that begins nothing.
@@ -205,19 +224,19 @@ impl Writer {
         let channel = self.given_channel();
         let long = self.random.pick(&[7_610, 7_611, 8_192, 9_000, 65_535]);
         let any = self.random.below(128) as u8;
-        match self.random.below(6) {
+        match self.random.below(8) {
             0 => self.opening_packet(channel, PING, long, &[]),
             1 => self.opening_packet(channel, CBOR, long, &[]),
             2 => self.opening_packet(channel, CBOR, 0, &[]),
             3 => self.opening_packet(channel, any, long, &[]),
-            4 => {
+            4 => self.opening_packet(channel, MSG, long, &[]),
+            5 => self.opening_packet(channel, MSG, 0, &[]),
+            6 => {
                 let length = self.random.pick(&[8, 8, 0, 7, 9, 264]);
                 self.opening_packet(channel, INIT, length, &[]);
             }
             _ => {
-                let command = self
-                    .random
-                    .pick(&[0, 2, 3, 4, 8, 0x3B, 0x3F, 0x40, 0x7F, any]);
+                let command = self.random.pick(&[0, 2, 4, 8, 0x3B, 0x3F, 0x40, 0x7F, any]);
                 self.opening_packet(channel, command, 1, &[]);
             }
         }
@@ -308,6 +327,10 @@ impl Writer {
 
     fn any_opening(&mut self, channel: Channel) {
         let command = self.random_command();
+        if command == MSG && self.random.once_in(2) {
+            let apdu = apdus::any(&mut self.random);
+            return self.first_packet(channel, command, &apdu);
+        }
         let any = self.random.number() as u16;
         let length = self.random.pick(&[0, 1, 8, 8, 57, 58, 7_609, 7_610, any]);
         self.opening_packet(channel, command, length, &[]);
@@ -342,7 +365,8 @@ impl Writer {
             0 => self.random.pick(&LENGTHS[1..]),
             _ => 1 + self.random.below(150),
         };
-        let bytes = self.random.bytes(length);
+        let least = 1 + usize::from(self.is_msg());
+        let bytes = self.random.bytes(length.max(least));
         let ticket = self.bench.key.ticket.0;
         self.words(&format!("deliver {ticket}"), &bytes);
     }
@@ -351,6 +375,7 @@ impl Writer {
     fn wrong_delivery(&mut self) {
         let ticket = self.bench.key.ticket.0;
         let (ticket, length) = match self.random.below(4) {
+            0 if self.is_msg() => (ticket, self.random.pick(&[0, 1, 1, LONGEST + 1])),
             0 => (ticket, self.random.pick(&[0, LONGEST + 1, 8_000])),
             1 => {
                 let any = self.random.number() as u32;

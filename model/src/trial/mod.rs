@@ -3,11 +3,14 @@
 //!
 //! [`writer`] writes the scripts, [`program`] runs the real program, [`run`] compares and
 //! [`shrink`] finds the shortest script that still shows a difference. [`breaches`] and [`faults`]
-//! put one thing that is wrong at a known place, so that the model's own answer can be tried too.
+//! put one thing that is wrong at a known place, and [`apdus`] what is wrong with an APDU, so that
+//! the model's own answer can be tried too: [`cases`] are lines with answers that are known so.
 
 use crate::packet::LONGEST;
 
+pub mod apdus;
 pub mod breaches;
+pub mod cases;
 pub mod commands;
 mod events;
 pub mod faults;

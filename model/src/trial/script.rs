@@ -22,6 +22,14 @@ impl Script {
         script
     }
 
+    /// The answer to each line, without its end.
+    pub fn each(&self) -> impl Iterator<Item = &[u8]> {
+        let starts = [0].into_iter().chain(self.ends.iter().copied());
+        starts
+            .zip(&self.ends)
+            .map(|(start, &end)| self.answers[start..end].trim_ascii_end())
+    }
+
     /// The line whose answer has the byte `at`; the last line where no answer has it.
     pub fn line_of(&self, at: usize) -> usize {
         let line = self.ends.partition_point(|&end| end <= at);

@@ -68,7 +68,9 @@ fn shorten_line(lines: &mut [String], at: usize, mut still: impl FnMut(&[String]
         return;
     };
     let is_packet = words == "packet";
-    let is_other = words == "check" || words.starts_with("item ") || words.starts_with("deliver ");
+    let is_other = ["check", "apdu"].contains(&words)
+        || words.starts_with("item ")
+        || words.starts_with("deliver ");
     let Some(bytes) = line::decode(hex).filter(|_| is_packet || is_other) else {
         return;
     };

@@ -5,7 +5,7 @@
 use super::random::Random;
 use super::LENGTHS;
 use crate::key::{Key, Message, Ticket, Transaction, GATHERING_TIME, MOST_CHANNELS};
-use crate::packet::{packets_needed, Channel, BROADCAST, CANCEL, CBOR, INIT, PING};
+use crate::packet::{packets_needed, Channel, BROADCAST, CANCEL, CBOR, INIT, MSG, PING};
 
 /// A state in order, as after many events: few channels are given, or about as many as 16 bits or
 /// a signed number can count, or all or almost all.
@@ -20,23 +20,23 @@ pub fn in_order(random: &mut Random) -> Key {
     let length = random.pick(&LENGTHS);
     let message = Message {
         holder: Channel(holder),
-        command: random.pick(&[PING, CBOR]),
+        command: random.pick(&[PING, CBOR, MSG]),
         length: length as u16,
     };
     let needed = packets_needed(length);
     let any = random.below(needed);
     let done = random.pick(&[0, 1, needed - 1, any]);
     let left = random.pick(&[1, 2, 1_500, GATHERING_TIME - 1, GATHERING_TIME]);
-    let transaction = match random.below(8) {
+    let transaction = match random.below(9) {
         0..=2 => Transaction::Idle,
         3..=5 if needed > 1 => Transaction::Gathering {
             message,
             done: done.clamp(1, needed - 1) as u16,
             left,
         },
-        6 => Transaction::Waiting {
+        6 | 7 => Transaction::Waiting {
             message: Message {
-                command: CBOR,
+                command: random.pick(&[CBOR, MSG]),
                 ..message
             },
         },
@@ -101,6 +101,6 @@ fn break_message(random: &mut Random, message: &mut Message, channels: u32) {
     match random.below(3) {
         0 => message.holder = Channel(random.pick(&[0, channels + 1, BROADCAST.0])),
         1 => message.length = random.pick(&[7_610, 7_611, 8_192, 65_535]),
-        _ => message.command = random.pick(&[0, 2, 3, INIT, CANCEL, 0x3F, 0x40, 0x7F]),
+        _ => message.command = random.pick(&[0, 2, 4, INIT, CANCEL, 0x3F, 0x40, 0x7F]),
     }
 }

@@ -2,40 +2,46 @@
 
 use std::collections::BTreeMap;
 
+use crate::bench::Bench;
 use crate::cbor::item_length;
 use crate::key::{Key, Transaction, MOST_CHANNELS};
 use crate::line::Line;
-use crate::packet::{Packet, BROADCAST, CANCEL, CBOR, INIT, PACKET, PING};
+use crate::packet::{Packet, BROADCAST, CANCEL, CBOR, INIT, MSG, PACKET, PING};
 
 /// How often each case came up.
 #[derive(Clone, Debug, Default, PartialEq, Eq)]
 pub struct Tally(pub BTreeMap<String, u64>);
 
 impl Tally {
-    /// Counts an event that met this state and got this answer.
-    pub fn count(&mut self, key: &Key, event: &Line, answer: &str) {
+    /// Counts an event that met this state, got this answer and left the bench like this.
+    pub fn count(&mut self, key: &Key, event: &Line, answer: &str, after: &Bench) {
         let case = match event {
             Line::Packet(bytes) => match <&[u8; PACKET]>::try_from(&bytes[..]) {
+                // What a packet says does not matter where the call is turned away.
+                Ok(_) if answer.starts_with("refused") => "packet".to_string(),
                 Ok(packet) => packet_case(key, packet),
                 Err(_) => "packet of another size".to_string(),
             },
             Line::Time(_) => "time".to_string(),
-            Line::Deliver(..) => "deliver".to_string(),
+            Line::Deliver(_, bytes) => delivery_case(bytes.len()).to_string(),
             Line::Fetch => "fetch".to_string(),
             Line::Check(_) => "check".to_string(),
             Line::Item(_, bytes) if is_whole_text(bytes) => "text".to_string(),
             Line::Item(..) => "item".to_string(),
+            Line::Apdu(bytes) => apdu_case(bytes),
             _ => return,
         };
         let phase = match event {
-            Line::Check(_) | Line::Item(..) => String::new(),
+            Line::Check(_) | Line::Item(..) | Line::Apdu(_) => String::new(),
             _ => format!("{} ", phase(key)),
         };
         let length = match event {
             Line::Check(bytes) | Line::Item(_, bytes) => bytes.len(),
             _ => 0,
         };
-        let case = format!("{phase}{case}: {}", kind_of_answer(answer, length));
+        let answer =
+            own_status(key, event, after).unwrap_or_else(|| kind_of_answer(answer, length));
+        let case = format!("{phase}{case}: {answer}");
         *self.0.entry(case).or_default() += 1;
     }
 
@@ -46,14 +52,71 @@ impl Tally {
     }
 }
 
-fn phase(key: &Key) -> &'static str {
-    match key.transaction {
-        _ if key.channels > MOST_CHANNELS => "overfull",
-        _ if !key.is_in_order() => "out of order",
+/// The phase, and whether it is that of a MSG.
+fn phase(key: &Key) -> String {
+    if key.channels > MOST_CHANNELS {
+        return "overfull".to_string();
+    }
+    if !key.is_in_order() {
+        return "out of order".to_string();
+    }
+    let phase = match key.transaction {
         Transaction::Idle => "idle",
         Transaction::Gathering { .. } => "gathering",
         Transaction::Waiting { .. } => "waiting",
         Transaction::Answering { .. } => "answering",
+    };
+    match key.transaction.message() {
+        Some(message) if message.command == MSG => format!("{phase} MSG"),
+        _ => phase.to_string(),
+    }
+}
+
+/// A delivery, by whether it is long enough for a status of one byte or of two.
+fn delivery_case(length: usize) -> &'static str {
+    match length {
+        1 => "deliver one byte",
+        2 => "deliver two bytes",
+        _ => "deliver",
+    }
+}
+
+/// How an APDU's size goes with its length bytes, and what else is wrong with it.
+fn apdu_case(bytes: &[u8]) -> String {
+    let size = match *bytes {
+        [_, _, _, _, _, high, low, ref rest @ ..] => {
+            let length = usize::from(u16::from_be_bytes([high, low]));
+            match rest.len().checked_sub(length) {
+                None => "fewer".to_string(),
+                Some(more @ 0..=3) => format!("{} + n", 7 + more),
+                Some(_) => "more".to_string(),
+            }
+        }
+        _ => bytes.len().to_string(),
+    };
+    let mut case = format!("apdu of {size}");
+    for (place, good, name) in [
+        (0, 0..=0, "class"),
+        (1, 1..=3, "instruction"),
+        (4, 0..=0, "fifth"),
+    ] {
+        if bytes.get(place).is_some_and(|byte| !good.contains(byte)) {
+            case.push_str(&format!(", {name}"));
+        }
+    }
+    case
+}
+
+/// Our own two status bytes, where a packet has completed a MSG that gets them.
+fn own_status(before: &Key, event: &Line, after: &Bench) -> Option<String> {
+    let is_completion = matches!(event, Line::Packet(_))
+        && !matches!(before.transaction, Transaction::Answering { .. });
+    match after.key.transaction {
+        Transaction::Answering { message, .. } if is_completion && message.command == MSG => {
+            let [high, low, ..] = *after.message;
+            Some(format!("status {high:02x}{low:02x}"))
+        }
+        _ => None,
     }
 }
 
@@ -65,6 +128,8 @@ fn packet_case(key: &Key, packet: &[u8; PACKET]) -> String {
                 PING => "PING",
                 INIT => "INIT",
                 CBOR => "CBOR",
+                MSG if opening.length == 0 => "MSG of no bytes",
+                MSG => "MSG",
                 CANCEL => "CANCEL",
                 _ => "another command",
             };

@@ -4,6 +4,7 @@
 //! continuation that is expected, or one that is not, and steps of time around what is left. What
 //! the model answers is kept as the answer the program has to give.
 
+use super::apdus;
 use super::commands;
 use super::item;
 use super::random::Random;
@@ -15,7 +16,7 @@ use crate::line::{self, Line, MESSAGE_BUFFER, REPLY_BUFFER};
 use crate::packet::{LONGEST, PACKET};
 
 /// Lines that are none of the protocol's.
-const BAD: [&str; 38] = [
+const BAD: [&str; 42] = [
     "nonsense",
     "packet 0",
     "packet 0g",
@@ -46,6 +47,10 @@ const BAD: [&str; 38] = [
     "item",
     "item 5 00",
     "item 00",
+    "apdu 0",
+    "apdu 0g",
+    "apdu 00 00",
+    "apdus 00",
     "reply",
     "reply 129",
     "message 8193",
@@ -57,7 +62,7 @@ const BAD: [&str; 38] = [
 ];
 
 /// Writes a script of about this many events: packets, time steps, deliveries, fetches, and
-/// commands and items to check.
+/// commands, items and APDUs to check.
 pub fn write_script(seed: u64, events: usize) -> (Script, Tally) {
     let mut writer = Writer {
         random: Random::new(seed),
@@ -100,6 +105,7 @@ impl Writer {
             10..=14 if !self.calm || self.holder().is_none() => self.other_state(),
             15..=39 => self.check(),
             40..=54 => self.item(),
+            55..=64 => self.apdu(),
             _ => self.event(),
         }
         match self.random.below(120) {
@@ -123,11 +129,12 @@ impl Writer {
                     | Line::Fetch
                     | Line::Check(_)
                     | Line::Item(..)
+                    | Line::Apdu(_)
             );
             if is_event {
                 self.events += 1;
-                self.tally
-                    .count(&before, &event, &String::from_utf8_lossy(answer));
+                let answer = String::from_utf8_lossy(answer);
+                self.tally.count(&before, &event, &answer, &self.bench);
             }
         }
     }
@@ -210,6 +217,19 @@ impl Writer {
         self.words(&format!("item {levels}"), &bytes);
     }
 
+    /// An APDU alone, which can be longer than any message.
+    fn apdu(&mut self) {
+        let random = &mut self.random;
+        let bytes = if random.once_in(30) {
+            let size = random.pick(&[LONGEST + 1, LONGEST + 2, 8_000, 9_000]);
+            let reply_length = random.pick(&[0, 2]);
+            apdus::good_of(random, size, reply_length).written()
+        } else {
+            apdus::any(random)
+        };
+        self.words("apdu", &bytes);
+    }
+
     /// A line that is none of the protocol's, or one that is passed over.
     fn bad_line(&mut self) {
         match self.random.below(60) {
@@ -219,6 +239,7 @@ impl Writer {
             3 => self.line(String::new()),
             4 => self.line("# a line to pass over".to_string()),
             5 => self.line("x".repeat(50_000)),
+            6 => self.words("apdu", &[0x5A; 10_001]),
             _ => {
                 let line = self.random.pick(&BAD);
                 self.line(line.to_string());
@@ -261,5 +282,9 @@ impl Writer {
         let key = states::in_order(&mut self.random);
         self.line(bench::state(&key));
         self.calm = self.random.once_in(2);
+        if self.random.once_in(2) {
+            // The next channel is often one at a bound, whatever the phase.
+            self.greeting();
+        }
     }
 }

@@ -4,7 +4,7 @@ use native.Mathlib.Omega.{arith}
 use borrow.Author.Tests.{le-ltb, lt-ltb}
 use borrow.Author.Needs.{needs}
 use Rattle.wire.proofs.Packets.{at-most-129}
-use Rattle.state.specs.Table.{_⇒_else_}
+use Rattle.rows.specs.Table.{_⇒_else_}
 use Rattle.machine.specs.Machine.{advanced}
 use Rattle.key.proofs.advance.Statement.{statement}
 use Rattle.key.proofs.advance.Tie as tie

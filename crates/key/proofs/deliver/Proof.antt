@@ -5,7 +5,7 @@ use borrow.Author.Tests.{lt-ltb}
 use borrow.Author.Needs.{needs}
 use Rattle.key.proofs.Rows.{deliver-row}
 use Rattle.machine.specs.Machine.{deliverRows, lent, step}
-use Rattle.state.specs.Table.{_⇒_else_}
+use Rattle.rows.specs.Table.{_⇒_else_}
 use Rattle.key.proofs.deliver.Statement.{statement}
 use Rattle.key.proofs.deliver.Tie as tie
 

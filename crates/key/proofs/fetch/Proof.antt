@@ -6,7 +6,7 @@ use borrow.Author.Tests.{le-ltb, lt-ltb}
 use borrow.Author.Needs.{needs}
 use Rattle.key.proofs.Rows.{fetch-row}
 use Rattle.state.proofs.Ordered.{starts-small, answering-parts}
-use Rattle.state.specs.Table.{_⇒_else_}
+use Rattle.rows.specs.Table.{_⇒_else_}
 use Rattle.machine.specs.Machine.{fetchRows, rows, lent, step}
 use Rattle.key.proofs.fetch.Statement.{statement}
 use Rattle.key.proofs.fetch.Tie as tie

@@ -2,7 +2,7 @@
 use mathlib.Core.Path.{sym, _∙_}
 use borrow.Author.Tests.{le-ltb, lt-ltb, le-leb, lt-leb, ne-eqb}
 use borrow.Author.Needs.{needs}
-use Rattle.state.specs.Table.{_⇒_else_}
+use Rattle.rows.specs.Table.{_⇒_else_}
 use Rattle.wire.specs.Packet.{opens}
 use Rattle.machine.specs.Machine.{packetRows, rows, lent, step}
 use Rattle.key.proofs.packet.Statement.{statement}

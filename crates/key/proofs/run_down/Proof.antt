@@ -1,7 +1,7 @@
 -- `run_down` meets its contract: each way out rewrites the row by the tests that led there.
 use borrow.Author.Tests.{le-leb, lt-leb}
 use borrow.Author.Needs.{needs}
-use Rattle.state.specs.Table.{_⇒_else_}
+use Rattle.rows.specs.Table.{_⇒_else_}
 use Rattle.machine.specs.Machine.{timeRows}
 use Rattle.key.proofs.run_down.Statement.{statement}
 use Rattle.key.proofs.run_down.Tie as tie

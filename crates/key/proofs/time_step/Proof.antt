@@ -6,7 +6,7 @@ use borrow.Author.Tests.{lt-ltb}
 use borrow.Author.Needs.{needs}
 use Rattle.key.proofs.Rows.{time-row}
 use Rattle.machine.specs.Machine.{timeRows, lent, step}
-use Rattle.state.specs.Table.{_⇒_else_}
+use Rattle.rows.specs.Table.{_⇒_else_}
 use Rattle.key.proofs.time_step.Statement.{statement}
 use Rattle.key.proofs.time_step.Tie as tie
 

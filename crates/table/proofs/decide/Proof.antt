@@ -2,7 +2,7 @@
 use mathlib.Core.Path.{sym, _∙_}
 use borrow.Author.Tests.{le-leb, lt-leb, ne-eqb}
 use borrow.Author.Needs.{needs}
-use Rattle.state.specs.Table.{_⇒_else_}
+use Rattle.rows.specs.Table.{_⇒_else_}
 use Rattle.table.specs.Opening.{openingRows}
 use Rattle.table.proofs.decide.Statement.{statement}
 use Rattle.table.proofs.decide.Tie as tie

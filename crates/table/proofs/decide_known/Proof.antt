@@ -2,18 +2,18 @@
 use mathlib.Core.Path.{sym}
 use borrow.Author.Tests.{ne-eqb}
 use borrow.Author.Needs.{needs}
-use Rattle.state.specs.Table.{_⇒_else_}
+use Rattle.rows.specs.Table.{_⇒_else_}
 use Rattle.table.specs.Opening.{openingRows}
 use Rattle.table.proofs.decide_known.Statement.{statement}
 use Rattle.table.proofs.decide_known.Tie as tie
 
 returns : tie.Need-returns
 unfolding openingRows _⇒_else_
-returns c = simp (c .if2 .taken, sym (c .before .waits .ensures), c .before .before .if1 .taken, c .before .before .before .pre .0, c .before .before .before .pre .1)
+returns c = simp (c .if2 .taken, sym (c .before .waits-on-cbor .ensures), c .before .before .if1 .taken, c .before .before .before .pre .0, c .before .before .before .pre .1)
 
 returns-2 : tie.Need-returns-2
 unfolding openingRows _⇒_else_
-returns-2 c = simp (c .if2 .left, sym (c .before .waits .ensures), c .before .before .if1 .taken, c .before .before .before .pre .0, c .before .before .before .pre .1)
+returns-2 c = simp (c .if2 .left, sym (c .before .waits-on-cbor .ensures), c .before .before .if1 .taken, c .before .before .before .pre .0, c .before .before .before .pre .1)
 
 returns-3 : tie.Need-returns-3
 unfolding openingRows _⇒_else_

@@ -1,7 +1,7 @@
 -- `if_holder` meets its contract, test by test.
 use mathlib.Core.Path.{sym}
 use borrow.Author.Needs.{needs}
-use Rattle.state.specs.Table.{_⇒_else_}
+use Rattle.rows.specs.Table.{_⇒_else_}
 use Rattle.table.specs.Opening.{ifHolder}
 use Rattle.table.proofs.if_holder.Statement.{statement}
 use Rattle.table.proofs.if_holder.Tie as tie

@@ -9,7 +9,7 @@ use Rattle.machine.specs.Machine.{taken, continuing}
 use Rattle.state.proofs.Ordered.{gathering-parts}
 use Rattle.wire.proofs.Packets.{later-fits}
 use Rattle.wire.proofs.Copies.{to-the-end}
-use Rattle.state.specs.Table.{_⇒_else_}
+use Rattle.rows.specs.Table.{_⇒_else_}
 use Rattle.key.proofs.continuing.continuation.Statement.{statement}
 use Rattle.key.proofs.continuing.continuation.Tie as tie
 

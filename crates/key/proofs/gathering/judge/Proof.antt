@@ -6,7 +6,7 @@ use Rattle.key.proofs.gathering.judge.Tie as tie
 
 returns : tie.Need-returns
 unfolding judged
-returns c = simp (c .quiet .ensures, c .before .in-phase .ensures, c .before .before .before .found .given .1)
+returns c = simp (c .answering .ensures, c .before .before .found .given .1)
 
 returns-2 : tie.Need-returns-2
 unfolding judged
@@ -22,7 +22,6 @@ judge-spec =
     (tie.spec
     (λ c. search needs)
     (λ c. search needs)
-    (λ c κs. search needs)
     (λ c κs. search needs)
     (λ c. search needs)
     (λ c κs. search needs)

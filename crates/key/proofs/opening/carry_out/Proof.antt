@@ -34,7 +34,7 @@ returns-5 c = simp (c .replied4 .ensures, c .before .in-phase2 .ensures, c .befo
 
 returns-6 : tie.Need-returns-6
 unfolding carriedOut
-returns-6 c = simp (c .quiet2 .ensures, c .before .in-phase3 .ensures, c .before .before .enum-told4 .given .1, sym (c .before .before .before .before .channel-of .ensures))
+returns-6 c = simp (c .answering .ensures, c .before .enum-told4 .given .1, sym (c .before .before .before .channel-of .ensures))
 
 returns-7 : tie.Need-returns-7
 unfolding carriedOut
@@ -71,7 +71,6 @@ carry-out-spec =
     (λ c κs. search needs)
     (λ c. search needs)
     (λ c. search needs)
-    (λ c κs. search needs)
     (λ c κs. search needs)
     (λ c. search needs)
     open-message-requires

@@ -2,7 +2,7 @@
 use mathlib.Core.Path.{sym}
 use borrow.Author.Tests.{le-ltb, lt-ltb, le-leb, lt-leb}
 use borrow.Author.Needs.{needs}
-use Rattle.state.specs.Table.{_⇒_else_, last-test, all}
+use Rattle.rows.specs.Table.{_⇒_else_, last-test, all}
 use Rattle.state.specs.Order.{messageInOrder}
 use Rattle.state.proofs.order.message_in_order.Statement.{statement}
 use Rattle.state.proofs.order.message_in_order.Tie as tie

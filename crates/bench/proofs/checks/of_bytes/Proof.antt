@@ -2,14 +2,14 @@
 use native.Mathlib.Omega.{arith}
 use Rattle.bench.proofs.Bounds.{hex-bound}
 use borrow.Author.Needs.{needs}
-use Rattle.bench.proofs.checks.check.Statement.{statement}
-use Rattle.bench.proofs.checks.check.Tie as tie
+use Rattle.bench.proofs.checks.of_bytes.Statement.{statement}
+use Rattle.bench.proofs.checks.of_bytes.Tie as tie
 
-part-check-end : tie.Need-part-check-end
-part-check-end c = omega (arith, hex-bound _ _ _ (c .before .before .before .before .before .bytes-of .ensures) (c .before .before .n .given .1))
+part-answer-end : tie.Need-part-answer-end
+part-answer-end c = omega (arith, hex-bound _ _ _ (c .before .before .before .before .before .bytes-of .ensures) (c .before .before .n .given .1))
 
-pub check-spec : {M : Type 1} → statement M
-check-spec =
+pub of-bytes-spec : {M : Type 1} → statement M
+of-bytes-spec =
     tie.close
     (tie.spec
     (λ c. search needs)
@@ -19,8 +19,7 @@ check-spec =
     (λ c. search needs)
     (λ c. search needs)
     (λ c. search needs)
-    part-check-end
-    (λ c κs. search needs)
+    part-answer-end
     (λ c κs. search needs)
     (λ c. search needs)
     (λ c. search needs))
