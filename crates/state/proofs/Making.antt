@@ -43,6 +43,7 @@ pub not-error : (command : ℕ) → starts command ≡ true → eqb command erro
 unfolding starts toCore
 not-error command s = starts-not command error s refl
 
+-- CBOR goes to the core
 pub core-cbor : toCore cbor ≡ true
 unfolding toCore
 core-cbor = refl
