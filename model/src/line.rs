@@ -102,11 +102,11 @@ fn number_up_to(most: usize, word: &str) -> Option<usize> {
     number(word).filter(|&value| value <= most)
 }
 
-/// The bytes of the last word of a line, which can be missing.
+/// The bytes of the last word of a line, which can be missing, with the space before it or without.
 fn optional_hex(words: &[&str]) -> Option<Vec<u8>> {
     match *words {
         [] => Some(Vec::new()),
-        [hex] if !hex.is_empty() => decode(hex),
+        [hex] => decode(hex),
         _ => None,
     }
 }
@@ -147,6 +147,7 @@ mod tests {
             ("", Line::Nothing),
             ("# packet", Line::Nothing),
             ("packet", Line::Packet(vec![])),
+            ("packet ", Line::Packet(vec![])),
             ("packet 00fF", Line::Packet(vec![0x00, 0xFF])),
             ("time 4294967295", Line::Time(u32::MAX)),
             ("deliver 7", Line::Deliver(Ticket(7), vec![])),
@@ -157,6 +158,7 @@ mod tests {
             ("item 0", Line::Item(0, vec![])),
             ("apdu 00fF", Line::Apdu(vec![0x00, 0xFF])),
             ("apdu", Line::Apdu(vec![])),
+            ("apdu ", Line::Apdu(vec![])),
             ("reply 128", Line::LendReply(128)),
             ("message 8192", Line::LendMessage(8_192)),
             ("show", Line::Show),
@@ -177,7 +179,7 @@ mod tests {
             "packet 0g",
             "packet 00 00",
             "packet  00",
-            "packet ",
+            "packet  ",
             "time",
             "time -1",
             "time +1",
@@ -190,7 +192,6 @@ mod tests {
             "item",
             "apdu 0",
             "apdu 00 00",
-            "apdu ",
             "reply 129",
             "message 8193",
             "state 0 0",

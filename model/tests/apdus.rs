@@ -173,18 +173,21 @@ impl Play {
         self.cases.push(line, answer);
     }
 
-    /// An opening packet without payload.
-    fn opening(&mut self, channel: Channel, command: u8, length: u16, answer: &str) {
+    /// The host's opening packet without payload.
+    fn opening(&mut self, command: u8, length: u16, answer: &str) {
         let mut packet = [0; PACKET];
-        packet[..4].copy_from_slice(&channel.0.to_be_bytes());
+        packet[..4].copy_from_slice(&HOST.0.to_be_bytes());
         packet[4] = 0x80 | command;
         packet[5..7].copy_from_slice(&length.to_be_bytes());
         self.packet(&packet, answer);
     }
 
+    /// The stranger's APDU is good, and finds the key busy.
     fn knock(&mut self) {
         let busy = reply(&[0, 0, 0, 2, 0xBF, 0, 1, 0x06]);
-        self.opening(STRANGER, MSG, 7, &busy);
+        for packet in cut(STRANGER, MSG, &of_header(0, 3, 0, 0)) {
+            self.packet(&packet, &busy);
+        }
     }
 
     /// Sends a message; its last packet gets this answer.
@@ -222,7 +225,7 @@ impl Play {
         self.ticket += 1;
         let ticket = self.ticket;
         self.send(apdu, &format!("ok ticket {ticket}"));
-        self.opening(HOST, CANCEL, 0, "ok");
+        self.opening(CANCEL, 0, "ok");
         self.deliver(ticket + 1, &delivery[..1], "refused 5");
         self.deliver(ticket, &delivery[..1], "refused 6");
         self.deliver(ticket, &[], "refused 6");
@@ -242,7 +245,7 @@ impl Play {
     fn answered(&mut self, answer: &[u8], apdu: &[u8]) {
         let behind = apdu.get(answer.len()..).unwrap_or_default();
         let phase = format!("answering 1 3 {} 0", answer.len());
-        self.opening(HOST, CANCEL, 0, "ok");
+        self.opening(CANCEL, 0, "ok");
         self.show(&phase, &[answer, behind].concat());
         let header = [0, 0, 0, 1, 0x83, 0, answer.len() as u8];
         self.fetch(&reply(&[&header, answer].concat()));
@@ -277,10 +280,10 @@ fn a_msg_of_no_bytes_or_too_many() {
     let mut play = Play::new();
     let invalid_length = reply(&[0, 0, 0, 1, 0xBF, 0, 1, 0x03]);
     for length in [0, LONGEST as u16 + 1, 8_192, 0xFFFF] {
-        play.opening(HOST, MSG, length, &invalid_length);
+        play.opening(MSG, length, &invalid_length);
         play.fetch("refused 4");
     }
-    play.opening(HOST, MSG, LONGEST as u16, "ok");
+    play.opening(MSG, LONGEST as u16, "ok");
     play.knock();
     hold(play.cases);
 }

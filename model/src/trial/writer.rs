@@ -16,13 +16,14 @@ use crate::line::{self, Line, MESSAGE_BUFFER, REPLY_BUFFER};
 use crate::packet::{LONGEST, PACKET};
 
 /// Lines that are none of the protocol's.
-const BAD: [&str; 42] = [
+const BAD: [&str; 43] = [
     "nonsense",
     "packet 0",
     "packet 0g",
     "packet 000",
     "packet 00 00",
     "packet  00",
+    "packet  ",
     "PACKET 00",
     "packets",
     "time",
@@ -139,10 +140,11 @@ impl Writer {
         }
     }
 
-    /// A line of these words and, where there are any, these bytes.
+    /// A line of these words and these bytes; where there are none, the space before them can be
+    /// missing too.
     pub(super) fn words(&mut self, words: &str, bytes: &[u8]) {
         let mut line = words.as_bytes().to_vec();
-        if !bytes.is_empty() {
+        if !bytes.is_empty() || self.random.once_in(2) {
             line.push(b' ');
             line::encode(bytes, &mut line);
             if self.random.once_in(16) {
