@@ -7,7 +7,6 @@ use mathlib.Core.List.{List, _∷_, _++_}
 use native.Mathlib.Numerals.{add-one}
 use native.Mathlib.Omega.{arith}
 use lib.ListN.{length, take, drop}
-use lib.Seq.{take-at, length-take-le}
 use borrow.Author.Tests.{lt-ltb, le-ltb}
 use Rattle.wire.specs.declared.Channel.{Channel}
 use Rattle.wire.specs.Packet.{packetSize, longest, ping, packets, packetOf}
@@ -25,7 +24,8 @@ use Rattle.machine.specs.Machine.{fetch, quiet, says, completed, advance
 use Rattle.machine.specs.Run.{Run, run, sends, fetches, endsIn, repliesOf}
 use Rattle.machine.specs.Theorems.{Fetched, Echo}
 use Rattle.table.proofs.Verdicts.{good-length}
-use Rattle.machine.proofs.Gathering.{stored-length, answer-begins, gathered-whole}
+use Rattle.machine.proofs.Kept.{answer-begun}
+use Rattle.machine.proofs.Gathering.{stored-length, stored-front, gathered-whole}
 
 advanced-more : (h : Channel) (command n k : ℕ) → suc k < packets n → advanced h command n k ≡ Answering h command n (suc k)
 unfolding advanced _⇒_else_
@@ -86,12 +86,11 @@ echo s c n src m p space space′ q room =
     let s′ : State = within s (Answering c ping n 0) in
     let m′ : List ℕ = take n src ++ drop n m in
     let g : run s m (sends p space 0 (packets n)) ≡ endsIn (quiet s′ m′) (sends p space 0 (packets n)) = gathered-whole s c ping n src m p space q in
-    let o = answer-begins q n (good-length ping n (q .size)) in
-    let l : length (take n src) ≡ n = length-take-le n src (q .bytes) in
+    let o = answer-begun s m (q .order) c ping n (q .channel) (good-length ping n (q .size)) (q .opens) in
     let r = fetched s′ c ping n m′ space′ o refl (rw (stored-length q) (q .message)) room in
     rw g (
       refl,
       refl,
       r .0 ∙ ap (within s) (sym (q .idle)),
-      λ buffer. r .3 buffer ∙ ap (λ (x : List ℕ). x ++ drop n buffer) (take-at (take n src) (drop n m) n l),
+      λ buffer. r .3 buffer ∙ ap (λ (x : List ℕ). x ++ drop n buffer) (stored-front q),
     )

@@ -18,7 +18,7 @@ use Rattle.wire.proofs.Packets.{at-most-129, at-least-1, starts-within}
 use Rattle.wire.proofs.Roundtrips.{roundtrip, put-length}
 use Rattle.wire.proofs.Readings.{puts-its-part, reads-channel, reads-opening, reads-command, reads-length, reads-number, reads-continuation}
 use Rattle.state.specs.declared.Phase.{Phase}
-use Rattle.state.specs.declared.Phase.the-variants.{Gathering, Answering}
+use Rattle.state.specs.declared.Phase.the-variants.{Gathering}
 use Rattle.state.specs.declared.Work.{Work}
 use Rattle.state.specs.declared.State.{State}
 use Rattle.state.specs.declared.Answer.the-variants.{Quiet}
@@ -26,7 +26,7 @@ use Rattle.rows.specs.Table.{_⇒_else_}
 use Rattle.state.specs.Order.{gatheringTime, inOrder}
 use Rattle.state.specs.Answers.{now, within}
 use Rattle.state.proofs.Ordered.{count-in-order, Message}
-use Rattle.state.proofs.Making.{not-init, not-cancel, answering-made, gathering-made, state-made}
+use Rattle.state.proofs.Making.{not-init, not-cancel, gathering-made, state-made}
 use Rattle.table.specs.Opening.{openingRows, standingOf}
 use Rattle.machine.specs.Machine.{packet, Turn, quiet, at, beside, completed, taken, carriedOut, opening, continuing, packetRows, lent, rows, step}
 use Rattle.machine.specs.Run.{logged, run, sends, quietUntil, endsIn}
@@ -188,7 +188,7 @@ module _ (s : State) (c : Channel) (command n : ℕ) (src m : List ℕ) (p : ℕ
       rw (first-step ∙ more 0 (omega arith))
       (ap (logged (record { event = packet (p 0) (space 0); answer = Quiet; reply = none })) (rest 0 j (omega arith)))
 
--- what stands in the buffer then is no longer than it was, and an answer can begin
+-- then the buffer is as long as it was, and the message sent stands at its front
 pub stored-length : {s : State} {c : Channel} {command n : ℕ} {src m : List ℕ} {p : ℕ → List ℕ} {space : ℕ → ℕ}
     → Sending s c command n src m p space → length (take n src ++ drop n m) ≡ length m
 stored-length {command = command} {n = n} {src = src} q =
@@ -196,11 +196,9 @@ stored-length {command = command} {n = n} {src = src} q =
     let k = good-length command n (q .size) in
     simp (length-append, length-drop) (omega (arith, l, k, q .message))
 
-pub answer-begins : {s : State} {c : Channel} {command n : ℕ} {src m : List ℕ} {p : ℕ → List ℕ} {space : ℕ → ℕ}
-    → Sending s c command n src m p space → (size : ℕ) → size ≤ longest → inOrder (within s (Answering c command size 0)) ≡ true
-answer-begins {s = s} {c = c} {command = command} q size l =
-    state-made (s .given) (within s (Answering c command size 0) .work) (count-in-order s (q .order))
-    (answering-made (record { is-known = q .channel; size = l; more = at-least-1 size; opens = q .opens }))
+pub stored-front : {s : State} {c : Channel} {command n : ℕ} {src m : List ℕ} {p : ℕ → List ℕ} {space : ℕ → ℕ}
+    → Sending s c command n src m p space → take n (take n src ++ drop n m) ≡ take n src
+stored-front {n = n} {src = src} {m = m} q = take-at (take n src) (drop n m) n (length-take-le n src (q .bytes))
 
 pub gathered-whole : Gathered
 unfolding last
@@ -208,10 +206,8 @@ gathered-whole s c command n src m p space q = all-of s c command n src m p spac
 
 pub command-gathered : CommandGathered
 unfolding completed _⇒_else_
-command-gathered s c n src m p space q =
-    rw (take-at (take n src) (drop n m) n (length-take-le n src (q .bytes))) at (gathered-whole s c cbor n src m p space q)
+command-gathered s c n src m p space q = rw (stored-front q) at (gathered-whole s c cbor n src m p space q)
 
 pub apdu-gathered : ApduGathered
 unfolding completed _⇒_else_
-apdu-gathered s c n src m p space q =
-    rw (take-at (take n src) (drop n m) n (length-take-le n src (q .bytes))) at (gathered-whole s c msg n src m p space q)
+apdu-gathered s c n src m p space q = rw (stored-front q) at (gathered-whole s c msg n src m p space q)

@@ -63,10 +63,10 @@ module _ (s : State) (m : List ℕ) (o : inOrder s ≡ true) where
   idle : inOrder (within s Idle) ≡ true
   idle = with-phase Idle (idle-made (s .given))
 
-  -- a reply that is begun
-  answering : (h : Channel) (command n : ℕ) → known (s .given) h ≡ true → n ≤ longest → starts command ≡ true
+  -- an answer that begins
+  pub answer-begun : (h : Channel) (command n : ℕ) → known (s .given) h ≡ true → n ≤ longest → starts command ≡ true
       → inOrder (within s (Answering h command n 0)) ≡ true
-  answering h command n k l c =
+  answer-begun h command n k l c =
       with-phase (Answering h command n 0) (answering-made (record { is-known = k; size = l; more = at-least-1 n; opens = c }))
 
   -- ---- time and fetches
@@ -125,7 +125,7 @@ module _ (s : State) (m : List ℕ) (o : inOrder s ≡ true) where
           λ _. tt,
         ))
         (λ _. completed-cases Of (s .work) h command n _
-        (λ size _ b. (answering h command size (q .is-known) (b .fits l) (q .opens), b .buffer ∙ e, λ _. b .two))
+        (λ size _ b. (answer-begun h command size (q .is-known) (b .fits l) (q .opens), b .buffer ∙ e, λ _. b .two))
         (λ x. (state-made (s .given) _ (count-in-order s o) (waiting-made (s .given) h command n (q .is-known) l (not-ping command (q .opens) x)), e, λ _. tt)))
 
     opening-kept : (p : List ℕ) → Kept s m (opening s m p)
@@ -137,7 +137,7 @@ module _ (s : State) (m : List ℕ) (o : inOrder s ≡ true) where
         (λ _. (idle, refl, λ _. tt))
         (λ _ g. (one-more-channel s (leb-false _ (s .given) g) o, refl, λ a. a))
         (idle, refl, λ _. tt)
-        (λ k _. (answering (channelOf p) cbor 1 k (omega arith) (core-starts cbor core-cbor), length-set m 0 0x2D, λ _ i. absurd (omega arith)))
+        (λ k _. (answer-begun (channelOf p) cbor 1 k (omega arith) (core-starts cbor core-cbor), length-set m 0 0x2D, λ _ i. absurd (omega arith)))
         (λ k _ _ c l. taken-kept (channelOf p) (commandOf p) (lengthOf p) 0 gatheringTime _
         (record { is-known = k; size = good-length (commandOf p) (lengthOf p) l; more = at-least-1 (lengthOf p); opens = c }) (omega arith) (omega arith))
 
@@ -159,7 +159,7 @@ module _ (s : State) (m : List ℕ) (o : inOrder s ≡ true) where
         let q = waiting-parts s h command n o e in
         row Of _ _ _ (λ _. unchanged) (λ _. row Of _ _ _ (λ _. unchanged) (λ x. row Of _ _ _ (λ _. unchanged) (λ y. row Of _ _ _ (λ _. unchanged)
         (λ z. let l = ltb-false longest (length bytes) z in
-        (answering h command (length bytes) (q .0) l (core-starts command (q .1)), onto-length bytes m (omega arith), λ _. two-at-least command (length bytes) x y)))))
+        (answer-begun h command (length bytes) (q .0) l (core-starts command (q .1)), onto-length bytes m (omega arith), λ _. two-at-least command (length bytes) x y)))))
     deliver-kept (Answering h command n k) ticket bytes e = unchanged
 
 rows-kept : (s : State) (m : List ℕ) (e : Event) → inOrder s ≡ true → lent e (length m) ≡ 0 → Kept s m (rows s m e)

@@ -19,10 +19,10 @@ use Rattle.machine.specs.Machine.{packet, quiet, passed, carriedOut, ope
 use Rattle.machine.specs.Run.{Call, turn, after, run, sends, fetches, endsIn}
 use Rattle.machine.specs.Theorems.{OwnStatus, CancelDoesNothing, TwoStatusBytes}
 use Rattle.machine.proofs.Steps.{step-rows}
-use Rattle.machine.proofs.Kept.{Whole, step-kept}
+use Rattle.machine.proofs.Kept.{Whole, answer-begun, step-kept}
 use Rattle.machine.proofs.Replies.{not-broadcast}
 use Rattle.machine.proofs.Refusals.{fresh-in}
-use Rattle.machine.proofs.Gathering.{stored-length, answer-begins, apdu-gathered}
+use Rattle.machine.proofs.Gathering.{stored-length, apdu-gathered}
 use Rattle.machine.proofs.Fetching.{fetched}
 
 -- ---- our own status bytes
@@ -43,7 +43,7 @@ own-status s c n src m p space space′ high low q e l =
     let m″ : List ℕ = set (set m′ 0 high) 1 low in
     let k = stored-length q in
     let g : run s m (sends p space 0 (packets n)) ≡ endsIn (quiet s′ m″) (sends p space 0 (packets n)) = rw e at (apdu-gathered s c n src m p space q) in
-    let o = answer-begins q 2 (omega arith) in
+    let o = answer-begun s m (q .order) c msg 2 (q .channel) (omega arith) (q .opens) in
     let long : longest ≤ length m″ = rw (length-set (set m′ 0 high) 1 low, length-set m′ 0 high, k) (q .message) in
     let r = fetched s′ c msg 2 m″ (λ _. space′) o refl long (λ _ _. l) in
     rw g (
