@@ -23,6 +23,7 @@ pub enum Apdu {
 // The bytes before the data.
 const HEADER: usize = 7;
 
+// A byte, as a size.
 fn size(b: u8) -> usize
     ensures { λ r. ⌜ (r ≡ b) × (r < 256) ⌝ }
 {

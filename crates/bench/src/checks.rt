@@ -20,29 +20,11 @@ const LEVELS: u8 = 4;
 
 const INVALID_CBOR: u8 = 0x12;
 
-// What is asked of bytes alone.
-enum Asked {
+// What is asked of bytes alone: `check HEX`, `apdu HEX`, or `item L HEX` with its levels.
+pub(crate) enum Asked {
     Check,
     Apdu,
     Item(u8),
-}
-
-// `check HEX`
-pub(crate) fn check(b: Bench, text: &[u8], out: &mut [u8]) -> Taken
-    requires { ⌜ lends b ⌝ }
-    requires { ⌜ answerSize ≤ length (now out) ⌝ }
-    ensures { λ r. ⌜ fits r ⌝ }
-{
-    of_bytes(b, Asked::Check, text, out)
-}
-
-// `apdu HEX`
-pub(crate) fn apdu(b: Bench, text: &[u8], out: &mut [u8]) -> Taken
-    requires { ⌜ lends b ⌝ }
-    requires { ⌜ answerSize ≤ length (now out) ⌝ }
-    ensures { λ r. ⌜ fits r ⌝ }
-{
-    of_bytes(b, Asked::Apdu, text, out)
 }
 
 // `item L HEX`
@@ -60,8 +42,8 @@ pub(crate) fn item(b: Bench, text: &[u8], out: &mut [u8]) -> Taken
     of_bytes(b, Asked::Item(levels), words::rest(text), out)
 }
 
-// The bytes that the text is the hex of.
-fn of_bytes(b: Bench, asked: Asked, text: &[u8], out: &mut [u8]) -> Taken
+// What the bytes get that the text is the hex of.
+pub(crate) fn of_bytes(b: Bench, asked: Asked, text: &[u8], out: &mut [u8]) -> Taken
     requires { ⌜ lends b ⌝ }
     requires { ⌜ answerSize ≤ length (now out) ⌝ }
     ensures { λ r. ⌜ fits r ⌝ }

@@ -3,6 +3,7 @@ use crate::bench::Bench;
 use crate::bench::Taken;
 use crate::calls;
 use crate::checks;
+use crate::checks::Asked;
 use crate::settings;
 use crate::showing;
 use crate::words;
@@ -96,8 +97,8 @@ pub(crate) fn run(
         Kind::Time => calls::time(b, text, reply, out),
         Kind::Deliver => calls::deliver(b, text, reply, message, out),
         Kind::Fetch => calls::fetch(b, reply, message, out),
-        Kind::Check => checks::check(b, text, out),
-        Kind::Apdu => checks::apdu(b, text, out),
+        Kind::Check => checks::of_bytes(b, Asked::Check, text, out),
+        Kind::Apdu => checks::of_bytes(b, Asked::Apdu, text, out),
         Kind::Item => checks::item(b, text, out),
         Kind::Reply => settings::reply(b, text),
         Kind::Message => settings::message(b, text),
