@@ -28,8 +28,8 @@ const BROADCAST: u32 = 0xFFFFFFFF;
 // An INIT carries a nonce of 8 bytes.
 const NONCE: usize = 8;
 
-// How a packet's channel stands to the key: it is idle, another channel holds it, or this one does and
-// gathers, waits on a command or answers.
+// How a packet's channel stands to the key: it is idle, another channel holds it, or this one does and gathers, waits on a command or
+// answers.
 pub enum Standing {
     Free,
     Other,
