@@ -4,6 +4,6 @@ mod Arguments
 mod Same
 mod Values
 pub mod Answers
-mod Places
+pub mod Places
 mod Before
 mod Outcome

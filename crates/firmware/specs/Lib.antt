@@ -1,0 +1,4 @@
+pub mod Block
+pub mod Word
+pub mod Calls
+pub mod Theorems

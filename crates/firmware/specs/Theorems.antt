@@ -1,0 +1,1 @@
+-- What is proved of blocks, words and calls on blocks. Each statement is a definition here; its proof stands in proofs/.
