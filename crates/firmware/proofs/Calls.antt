@@ -20,15 +20,15 @@ use Rattle.firmware.specs.Word.{wordOf}
 use Rattle.firmware.specs.Calls.{Done, done, onHeld, onBlock}
 
 -- a row that gives nothing is not the one that held a state
-passed-by : (b : Bool) (h : Held) (s : State) → (b ⇒ Nothing else h) ≡ Kept s → b ≡ false
+pub passed-by : (b : Bool) (h : Held) (s : State) → (b ⇒ Nothing else h) ≡ Kept s → (b ≡ false) × (h ≡ Kept s)
 unfolding _⇒_else_
 passed-by true h s e = clash (cc)
-passed-by false h s e = refl
+passed-by false h s e = (refl, e)
 
 -- a block that holds a state has 32 bytes
 pub held-long : (b : List ℕ) (s : State) → heldIn b ≡ Kept s → blockSize ≤ length b
 unfolding heldIn
-held-long b s e = ltb-false (length b) blockSize (passed-by (ltb (length b) blockSize) _ s e)
+held-long b s e = ltb-false (length b) blockSize (passed-by _ _ s e .0)
 
 -- no state's block: refused with 7
 pub on-nothing : (b reply m : List ℕ) (e : Event) → heldIn b ≡ Nothing → done 7 b reply m ≡ onBlock b reply m e

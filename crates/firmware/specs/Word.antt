@@ -1,6 +1,6 @@
 -- Request 2026-05: the word of 64 bits that a call answers.
 use Prim.Native.Nat.{ℕ, _+_, _*_, _/_, _%_, _^_}
-use mathlib.Core.Bool.{Bool}
+use mathlib.Core.Bool.{Bool, true, false}
 use lib.Dec.{eqb}
 use Rattle.state.specs.declared.Answer.{Answer}
 use Rattle.state.specs.declared.Answer.the-variants.{Refused, Quiet, Replied, Handed}
@@ -29,6 +29,36 @@ unfoldable pub checkedWord : Checked → ℕ
 checkedWord checked.Info = 0
 checkedWord (checked.Good at) = bit8 + high at
 checkedWord (checked.Refused status place) = status + high place
+
+-- what they say, apart: whether there is a reply packet, whether a ticket, and which; 0 is none
+abbrev pub replies : Answer → Bool
+replies (Refused n) = false
+replies Quiet = false
+replies Replied = true
+replies (Handed t) = false
+
+abbrev pub hands : Answer → Bool
+hands (Refused n) = false
+hands Quiet = false
+hands Replied = false
+hands (Handed t) = true
+
+abbrev pub ticketIn : Answer → ℕ
+ticketIn (Refused n) = 0
+ticketIn Quiet = 0
+ticketIn Replied = 0
+ticketIn (Handed t) = t .0
+
+-- whether there is a hash, and the place
+abbrev pub shows : Checked → Bool
+shows checked.Info = false
+shows (checked.Good at) = true
+shows (checked.Refused status place) = false
+
+abbrev pub placeIn : Checked → ℕ
+placeIn checked.Info = 0
+placeIn (checked.Good at) = at
+placeIn (checked.Refused status place) = place
 
 -- ---- what a host reads in a word, as the header's functions do
 

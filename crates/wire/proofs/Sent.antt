@@ -13,7 +13,7 @@ use Rattle.wire.specs.Packet.{packetSize, init, byte, bytes4, bytes2, fi
 
 -- ---- any packet
 
-bytes4-back : (n : ℕ) → n < 2 ^ 32 → ((n / 256 / 256 / 256 % 256 * 256 + n / 256 / 256 % 256) * 256 + n / 256 % 256) * 256 + n % 256 ≡ n
+pub bytes4-back : (n : ℕ) → n < 2 ^ 32 → ((n / 256 / 256 / 256 % 256 * 256 + n / 256 / 256 % 256) * 256 + n / 256 % 256) * 256 + n % 256 ≡ n
 bytes4-back n h = omega arith
 
 -- a channel in four bytes
