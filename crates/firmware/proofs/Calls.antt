@@ -1,34 +1,17 @@
 -- What a call on a block comes to, by what the block holds. Assumes nothing.
-use Prim.Native.Nat.{ℕ, _≤_}
-use mathlib.Core.Path.{_≡_, refl, sym, ap, _∙_}
-use mathlib.Core.Bool.{Bool, true, false}
+use Prim.Native.Nat.{ℕ}
+use mathlib.Core.Path.{_≡_, ap}
 use mathlib.Core.List.{List}
-use lib.ListN.{length}
-use lib.Dec.{ltb}
-use borrow.Author.Tests.{ltb-false}
 use Rattle.wire.specs.Copying.{onto}
 use Rattle.state.specs.declared.State.{State}
 use Rattle.state.specs.declared.Outcome.{Outcome}
 use Rattle.rows.specs.Table.{_⇒_else_}
-use Rattle.machine.specs.Machine.{Event, Turn, step}
+use Rattle.machine.specs.Machine.{Event, step}
 use Rattle.machine.specs.Call.{Effect, effect, asked}
-use Rattle.machine.proofs.Shapes.{clash}
-use Rattle.firmware.specs.declared.block.Held.{Held}
-use Rattle.firmware.specs.declared.block.Held.the-variants.{Nothing, Kept}
-use Rattle.firmware.specs.Block.{blockSize, blockOf, heldIn}
+use Rattle.block.specs.declared.Held.the-variants.{Nothing, Kept}
+use Rattle.block.specs.Block.{blockOf, heldIn}
 use Rattle.firmware.specs.Word.{wordOf}
-use Rattle.firmware.specs.Calls.{Done, done, onHeld, onBlock}
-
--- a row that gives nothing is not the one that held a state
-pub passed-by : (b : Bool) (h : Held) (s : State) → (b ⇒ Nothing else h) ≡ Kept s → (b ≡ false) × (h ≡ Kept s)
-unfolding _⇒_else_
-passed-by true h s e = clash (cc)
-passed-by false h s e = (refl, e)
-
--- a block that holds a state has 32 bytes
-pub held-long : (b : List ℕ) (s : State) → heldIn b ≡ Kept s → blockSize ≤ length b
-unfolding heldIn
-held-long b s e = ltb-false (length b) blockSize (passed-by _ _ s e .0)
+use Rattle.firmware.specs.Calls.{done, onHeld, onBlock}
 
 -- no state's block: refused with 7
 pub on-nothing : (b reply m : List ℕ) (e : Event) → heldIn b ≡ Nothing → done 7 b reply m ≡ onBlock b reply m e

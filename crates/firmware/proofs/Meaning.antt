@@ -16,12 +16,12 @@ use Rattle.machine.specs.Run.{Call, turn, after}
 use Rattle.machine.proofs.Kept.{step-kept}
 use Rattle.machine.proofs.Refusals.{fresh-in, never-out-of-order}
 use Rattle.machine.proofs.Tickets.{tickets-count}
-use Rattle.firmware.specs.declared.block.Held.the-variants.{Kept}
-use Rattle.firmware.specs.Block.{blockSize, fieldsBy, heldIn}
+use Rattle.block.specs.declared.Held.the-variants.{Kept}
+use Rattle.block.specs.Block.{blockSize, fieldsBy, heldIn}
 use Rattle.firmware.specs.Calls.{onHeld, onBlock, freshOn}
 use Rattle.firmware.specs.Theorems.{Meaning, blockAfter, FromFresh, NeverSeven}
-use Rattle.firmware.proofs.Blocks.{written-back}
-use Rattle.firmware.proofs.Fitting.{written-held, in-order-fits}
+use Rattle.block.proofs.Blocks.{written-back}
+use Rattle.block.proofs.Fitting.{written-held, in-order-fits}
 use Rattle.firmware.proofs.Refusals.{only-bad-blocks}
 
 -- a ticket is a 32-bit number, and stays one

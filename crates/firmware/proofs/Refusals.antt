@@ -19,14 +19,15 @@ use Rattle.machine.proofs.Steps.{out-of-order}
 use Rattle.machine.proofs.Shapes as shapes
 use Rattle.machine.proofs.Shapes.{Shape, shape}
 use Rattle.machine.proofs.Refusals.{refusal-changes-nothing}
-use Rattle.firmware.specs.declared.block.Held.{Held}
-use Rattle.firmware.specs.declared.block.Held.the-variants.{Nothing, Kept}
-use Rattle.firmware.specs.Block.{blockSize, blockOf, heldIn}
+use Rattle.block.specs.declared.Held.{Held}
+use Rattle.block.specs.declared.Held.the-variants.{Nothing, Kept}
+use Rattle.block.specs.Block.{blockSize, blockOf, heldIn}
 use Rattle.firmware.specs.Word.{wordOf, lowByte}
 use Rattle.firmware.specs.Calls.{Done, done, written, onHeld}
 use Rattle.firmware.specs.Theorems.{OneOutcome, BadBlock, OnlyBadBlocks, RefusalChangesNothing, BeyondStays}
-use Rattle.firmware.proofs.Calls.{held-long, on-nothing}
-use Rattle.firmware.proofs.Fitting.{block-length, onto-block, unchanged}
+use Rattle.block.proofs.Blocks.{held-long}
+use Rattle.firmware.proofs.Calls.{on-nothing}
+use Rattle.block.proofs.Fitting.{block-length, onto-block, unchanged}
 
 -- ---- the number in a word
 

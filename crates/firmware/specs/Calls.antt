@@ -4,15 +4,14 @@ use mathlib.Core.List.{List, []}
 use lib.ListN.{length}
 use lib.Dec.{ltb}
 use Rattle.wire.specs.Copying.{onto}
-use Rattle.state.specs.declared.Ticket.{Ticket}
 use Rattle.state.specs.declared.State.{State}
 use Rattle.rows.specs.Table.{_⇒_else_}
 use Rattle.machine.specs.Machine.{Event, packet, time, deliver, fetch, Turn, step, fresh}
 use Rattle.machine.specs.Call.{sent}
 use Rattle.command.specs.Check.{checkOf}
-use Rattle.firmware.specs.declared.block.Held.{Held}
-use Rattle.firmware.specs.declared.block.Held.the-variants.{Nothing, Kept}
-use Rattle.firmware.specs.Block.{blockSize, blockOf, heldIn}
+use Rattle.block.specs.declared.Held.{Held}
+use Rattle.block.specs.declared.Held.the-variants.{Nothing, Kept}
+use Rattle.block.specs.Block.{blockSize, blockOf, heldIn}
 use Rattle.firmware.specs.Word.{wordOf, checkedWord}
 
 -- what a call did: its word, and the block, the reply buffer and the message buffer after it

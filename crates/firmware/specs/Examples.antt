@@ -1,65 +1,20 @@
--- docs/BLOCK.md's examples: blocks in their bytes, and bytes that are no state's block.
+-- 7 comes before all other numbers: a fetch with no reply buffer and no message buffer, on blocks that are refused and on a fresh one.
 use Prim.Native.Nat.{ℕ}
 use mathlib.Core.Path.{_≡_}
-use mathlib.Core.List.{List, [], _∷_, _++_}
-use lib.ListN.{take, replicate}
-use Rattle.wire.specs.Packet.{ping, msg, cbor}
-use Rattle.state.specs.declared.Phase.{Phase}
-use Rattle.state.specs.declared.Phase.the-variants.{Idle, Gathering, Waiting, Answering}
-use Rattle.state.specs.declared.State.{State}
-use Rattle.machine.specs.Machine.{fetch, at, fresh}
-use Rattle.firmware.specs.declared.block.Held.the-variants.{Nothing, Kept}
-use Rattle.firmware.specs.Block.{blockOf, heldIn}
-use Rattle.firmware.specs.Calls.{done, onBlock}
+use mathlib.Core.List.{List, []}
+use lib.ListN.{replicate}
+use Rattle.machine.specs.Machine.{fetch, fresh}
+use Rattle.block.specs.Block.{blockOf}
+use Rattle.block.specs.Examples.{tooLong}
+use Rattle.firmware.specs.Calls.{Done, done, onBlock}
 
--- a state with three channels given and last ticket 7
-abbrev pub with7 : Phase → State
-with7 p = at 3 (record { ticket = record { 0 = 7 }; phase = p })
+abbrev pub fetchWithNothing : List ℕ → Done
+fetchWithNothing b = onBlock b [] [] (fetch 0)
 
-abbrev pub by2 : List ℕ
-by2 = 0 ∷ 0 ∷ 0 ∷ 3 ∷ 0 ∷ 0 ∷ 0 ∷ 7 ∷ 0 ∷ 0 ∷ 0 ∷ 2 ∷ []
-
--- idle
-abbrev pub idleBlock : List ℕ
-idleBlock = (0x42 ∷ 0x51 ∷ 0 ∷ 0 ∷ []) ++ (0 ∷ 0 ∷ 0 ∷ 3 ∷ 0 ∷ 0 ∷ 0 ∷ 7 ∷ []) ++ replicate 20 0
-
--- channel 2 gathers a CBOR command of 200 bytes: one packet is there, and 2,999 ms are left
-abbrev pub gatheringBlock : List ℕ
-gatheringBlock = (0x42 ∷ 0x51 ∷ 1 ∷ 0x10 ∷ []) ++ by2 ++ (0 ∷ 0 ∷ 0 ∷ 0xc8 ∷ 0 ∷ 0 ∷ 0 ∷ 1 ∷ 0 ∷ 0 ∷ 0x0b ∷ 0xb7 ∷ []) ++ replicate 4 0
-
--- its MSG of 200 bytes waits for the core
-abbrev pub waitingBlock : List ℕ
-waitingBlock = (0x42 ∷ 0x51 ∷ 2 ∷ 3 ∷ []) ++ by2 ++ (0 ∷ 0 ∷ 0 ∷ 0xc8 ∷ []) ++ replicate 12 0
-
--- it is answered with 7,609 bytes of PING, of which 128 packets are fetched
-abbrev pub answeringBlock : List ℕ
-answeringBlock = (0x42 ∷ 0x51 ∷ 3 ∷ 1 ∷ []) ++ by2 ++ (0 ∷ 0 ∷ 0x1d ∷ 0xb9 ∷ 0 ∷ 0 ∷ 0 ∷ 128 ∷ []) ++ replicate 8 0
-
-abbrev pub Blocks : Type 0
-Blocks =
-    (blockOf fresh ≡ 0x42 ∷ 0x51 ∷ replicate 30 0)
-    × (blockOf (with7 Idle) ≡ idleBlock)
-    × (blockOf (with7 (Gathering (record { 0 = 2 }) cbor 200 1 2999)) ≡ gatheringBlock)
-    × (blockOf (with7 (Waiting (record { 0 = 2 }) msg 200)) ≡ waitingBlock)
-    × (blockOf (with7 (Answering (record { 0 = 2 }) ping 7609 128)) ≡ answeringBlock)
-    × (heldIn (answeringBlock ++ (0xff ∷ [])) ≡ Kept (with7 (Answering (record { 0 = 2 }) ping 7609 128)))
-
--- too short; cleared memory; another mark; a fifth phase; a holder of an idle key; packets of a request that waits; time of an answer; a byte
--- that is 0 in every block
-abbrev pub NoBlocks : Type 0
-NoBlocks =
-    (heldIn (take 31 idleBlock) ≡ Nothing)
-    × (heldIn (replicate 32 0) ≡ Nothing)
-    × (heldIn (0x42 ∷ 0x52 ∷ replicate 30 0) ≡ Nothing)
-    × (heldIn (0x42 ∷ 0x51 ∷ 4 ∷ replicate 29 0) ≡ Nothing)
-    × (heldIn (0x42 ∷ 0x51 ∷ 0 ∷ 0 ∷ (by2 ++ replicate 16 0)) ≡ Nothing)
-    × (heldIn (0x42 ∷ 0x51 ∷ 2 ∷ 3 ∷ (by2 ++ (0 ∷ 0 ∷ 0 ∷ 0xc8 ∷ 0 ∷ 0 ∷ 0 ∷ 1 ∷ replicate 8 0))) ≡ Nothing)
-    × (heldIn (0x42 ∷ 0x51 ∷ 3 ∷ 3 ∷ (by2 ++ (0 ∷ 0 ∷ 0 ∷ 0xc8 ∷ 0 ∷ 0 ∷ 0 ∷ 1 ∷ 0 ∷ 0 ∷ 0 ∷ 1 ∷ replicate 4 0))) ≡ Nothing)
-    × (heldIn (0x42 ∷ 0x51 ∷ (replicate 29 0 ++ (1 ∷ []))) ≡ Nothing)
-
--- a state that is out of order has its block, and every call refuses it: here the reply has 7,610 bytes, and the lent buffers are short too
-abbrev pub tooLong : State
-tooLong = with7 (Answering (record { 0 = 2 }) ping 7610 0)
-
-abbrev pub OutOfOrder : Type 0
-OutOfOrder = (heldIn (blockOf tooLong) ≡ Kept tooLong) × (onBlock (blockOf tooLong) [] [] (fetch 0) ≡ done 7 (blockOf tooLong) [] [])
+-- a block of no bytes, cleared memory, a state out of order; then 2, of a block that is good
+abbrev pub SevenFirst : Type 0
+SevenFirst =
+    (fetchWithNothing [] ≡ done 7 [] [] [])
+    × (fetchWithNothing (replicate 32 0) ≡ done 7 (replicate 32 0) [] [])
+    × (fetchWithNothing (blockOf tooLong) ≡ done 7 (blockOf tooLong) [] [])
+    × (fetchWithNothing (blockOf fresh) ≡ done 2 (blockOf fresh) [] [])

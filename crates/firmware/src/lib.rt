@@ -13,12 +13,11 @@ ghost use mathlib.Core.List.{List, []};
 ghost use Prim.Native.Nat.{ℕ, _≤_};
 ghost use lib.ListN.{length};
 ghost use Rattle.wire.specs.Copying.{onto};
-ghost use Rattle.firmware.specs.Block.{blockSize, blockOf};
+ghost use Rattle.block.specs.Block.{blockSize, blockOf};
 ghost use Rattle.firmware.specs.Word.{wordOf};
 ghost use Rattle.firmware.specs.Calls.{done, packetOn, timeOn, deliverOn, fetchOn, freshOn, checkWord};
 
-pub mod block;
-pub mod word;
+mod word;
 
 // The refusal of a block that is too short or holds no state, before all other numbers. Of a state that is out of order the key says it itself.
 const NO_STATE: u64 = 7;

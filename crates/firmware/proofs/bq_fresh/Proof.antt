@@ -1,5 +1,4 @@
 -- `bq_fresh` meets its contract by its one test.
-use mathlib.Core.Path.{sym}
 use borrow.Author.Tests.{lt-ltb, le-ltb}
 use Rattle.firmware.specs.Word.{wordOf}
 use Rattle.firmware.specs.Calls.{freshOn}

@@ -1,5 +1,4 @@
 -- `of_answer` meets its contract, answer by answer.
-use mathlib.Core.Path.{refl}
 use Rattle.firmware.specs.Word.{wordOf}
 use borrow.Author.Needs.{needs}
 use Rattle.firmware.proofs.word.of_answer.Statement.{statement}

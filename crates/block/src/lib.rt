@@ -1,0 +1,299 @@
+// The block: a state in 32 bytes (docs/BLOCK.md).
+use state::Phase;
+use state::State;
+use state::Ticket;
+use state::Work;
+use wire::Channel;
+use wire::copying;
+ghost use mathlib.Core.Path.{_≡_};
+ghost use Prim.Native.Nat.{_+_, _≤_, _<_};
+ghost use lib.ListN.{length};
+ghost use Rattle.wire.specs.Copying.{overwrite};
+ghost use Rattle.wire.specs.Packet.{bytes4};
+ghost use Rattle.cbor.specs.Bytes.{u32At};
+ghost use Rattle.block.specs.Block.{blockSize, fieldsWith, fieldsBy, bytesOf, blockOf, fieldsIn, marked, noTime, noPackets, noMessage, keptWhen, named, heldIn};
+
+pub const SIZE: usize = 32;
+
+// The first two bytes of every block, so that cleared memory is none.
+const MARK_0: u8 = 0x42;
+
+const MARK_1: u8 = 0x51;
+
+// The phases' numbers.
+const IDLE: u8 = 0;
+
+const GATHERING: u8 = 1;
+
+const WAITING: u8 = 2;
+
+const ANSWERING: u8 = 3;
+
+// The numbers that stand in a block. What a phase has no use for is 0.
+pub struct Fields {
+    pub phase: u8,
+    pub command: u8,
+    pub given: u32,
+    pub ticket: u32,
+    pub holder: u32,
+    pub size: usize,
+    pub done: usize,
+    pub left: u32,
+}
+
+// What bytes hold: a state whose block they are, or nothing.
+pub enum Held {
+    Nothing,
+    Kept(State),
+}
+
+// ---- writing
+
+// A number in four bytes, high byte first.
+fn in_four(n: usize) -> [u8; 4]
+    ensures { λ r. ⌜ r ≡ bytes4 n ⌝ }
+{
+    let mut p = [0u8; 4];
+    p[0] = (n / 256 / 256 / 256 % 256) as u8;
+    p[1] = (n / 256 / 256 % 256) as u8;
+    p[2] = (n / 256 % 256) as u8;
+    p[3] = (n % 256) as u8;
+    p
+}
+
+// A block with a number at a place.
+fn with_number(b: [u8; 32], at: usize, n: usize) -> [u8; 32]
+    requires { ⌜ at + 4 ≤ blockSize ⌝ }
+    ensures { λ r. ⌜ r ≡ overwrite at (bytes4 n) b ⌝ }
+{
+    let four = in_four(n);
+    let mut p = b;
+    copying::copy_at(&mut p, at, &four);
+    p
+}
+
+// Where the numbers stand.
+fn bytes_of(f: Fields) -> [u8; 32]
+    ensures { λ r. ⌜ r ≡ bytesOf f ⌝ }
+{
+    let mut b = [0u8; 32];
+    b[0] = MARK_0;
+    b[1] = MARK_1;
+    b[2] = f.phase;
+    b[3] = f.command;
+    let with_given = with_number(b, 4, f.given as usize);
+    let with_ticket = with_number(with_given, 8, f.ticket as usize);
+    let with_holder = with_number(with_ticket, 12, f.holder as usize);
+    let with_size = with_number(with_holder, 16, f.size);
+    let with_done = with_number(with_size, 20, f.done);
+    with_number(with_done, 24, f.left as usize)
+}
+
+// A state's numbers, with those of its phase.
+fn fields_with(
+    s: State,
+    phase: u8,
+    command: u8,
+    holder: u32,
+    size: usize,
+    done: usize,
+    left: u32,
+) -> Fields
+    ensures { λ r. ⌜ r ≡ fieldsWith s phase command holder size done left ⌝ }
+{
+    let work = s.work;
+    let last = work.ticket;
+    Fields {
+        phase,
+        command,
+        given: s.given,
+        ticket: last.0,
+        holder,
+        size,
+        done,
+        left,
+    }
+}
+
+// A state's numbers, by its phase.
+fn fields_of(s: State) -> Fields
+    ensures { λ r. ⌜ r ≡ fieldsBy s (s .work .phase) ⌝ }
+{
+    let work = s.work;
+    let phase = work.phase;
+    match phase {
+        Phase::Idle => fields_with(s, IDLE, 0, 0, 0, 0, 0),
+        Phase::Gathering {
+            holder,
+            command,
+            size,
+            done,
+            left,
+        } => fields_with(s, GATHERING, command, holder.0, size, done, left),
+        Phase::Waiting {
+            holder,
+            command,
+            size,
+        } => fields_with(s, WAITING, command, holder.0, size, 0, 0),
+        Phase::Answering {
+            holder,
+            command,
+            size,
+            done,
+        } => fields_with(s, ANSWERING, command, holder.0, size, done, 0),
+    }
+}
+
+// The block of a state.
+pub fn of_state(s: State) -> [u8; 32]
+    ensures { λ r. ⌜ r ≡ blockOf s ⌝ }
+{
+    bytes_of(fields_of(s))
+}
+
+// ---- reading
+
+fn wide(b: u8) -> u32
+    ensures { λ r. ⌜ (r ≡ b) × (r < 256) ⌝ }
+{
+    b as u32
+}
+
+// Four bytes from a place on, high byte first.
+fn number(b: &[u8], at: usize) -> u32
+    requires { ⌜ at + 4 ≤ length (now b) ⌝ }
+    ensures { λ r. ⌜ r ≡ u32At (now (b .entry)) at ⌝ }
+{
+    let high = wide(b[at]) * 256 + wide(b[at + 1]);
+    (high * 256 + wide(b[at + 2])) * 256 + wide(b[at + 3])
+}
+
+fn fields_in(b: &[u8]) -> Fields
+    requires { ⌜ blockSize ≤ length (now b) ⌝ }
+    ensures { λ r. ⌜ r ≡ fieldsIn (now (b .entry)) ⌝ }
+{
+    Fields {
+        phase: b[2],
+        command: b[3],
+        given: number(b, 4),
+        ticket: number(b, 8),
+        holder: number(b, 12),
+        size: number(b, 16) as usize,
+        done: number(b, 20) as usize,
+        left: number(b, 24),
+    }
+}
+
+// The bytes that are the same in every block.
+fn is_marked(b: &[u8]) -> bool
+    requires { ⌜ blockSize ≤ length (now b) ⌝ }
+    ensures { λ r. ⌜ r ≡ marked (now (b .entry)) ⌝ }
+{
+    if b[0] == MARK_0 {
+        if b[1] == MARK_1 {
+            return number(b, 28) == 0;
+        }
+    }
+    false
+}
+
+fn no_time(f: Fields) -> bool
+    ensures { λ r. ⌜ r ≡ noTime f ⌝ }
+{
+    f.left == 0
+}
+
+fn no_packets(f: Fields) -> bool
+    ensures { λ r. ⌜ r ≡ noPackets f ⌝ }
+{
+    if f.done == 0 { no_time(f) } else { false }
+}
+
+fn no_message(f: Fields) -> bool
+    ensures { λ r. ⌜ r ≡ noMessage f ⌝ }
+{
+    if f.command == 0 {
+        if f.holder == 0 {
+            if f.size == 0 {
+                return no_packets(f);
+            }
+        }
+    }
+    false
+}
+
+// The state with this phase, where what the phase has no use for is 0.
+fn kept_when(unused: bool, f: Fields, phase: Phase) -> Held
+    ensures { λ r. ⌜ r ≡ keptWhen unused f phase ⌝ }
+{
+    if unused {
+        let state = State {
+            given: f.given,
+            work: Work {
+                ticket: Ticket(f.ticket),
+                phase,
+            },
+        };
+        return Held::Kept(state);
+    }
+    Held::Nothing
+}
+
+// The state that these numbers name.
+fn named(f: Fields) -> Held
+    ensures { λ r. ⌜ r ≡ named f ⌝ }
+{
+    let holder = Channel(f.holder);
+    let command = f.command;
+    let size = f.size;
+    let done = f.done;
+    let left = f.left;
+    let phase = f.phase;
+    match phase {
+        IDLE => kept_when(no_message(f), f, Phase::Idle),
+        GATHERING => kept_when(
+            true,
+            f,
+            Phase::Gathering {
+                holder,
+                command,
+                size,
+                done,
+                left,
+            },
+        ),
+        WAITING => kept_when(
+            no_packets(f),
+            f,
+            Phase::Waiting {
+                holder,
+                command,
+                size,
+            },
+        ),
+        ANSWERING => kept_when(
+            no_time(f),
+            f,
+            Phase::Answering {
+                holder,
+                command,
+                size,
+                done,
+            },
+        ),
+        _ => Held::Nothing,
+    }
+}
+
+// The state whose block stands at the front of these bytes.
+pub fn state_in(b: &[u8]) -> Held
+    ensures { λ r. ⌜ r ≡ heldIn (now (b .entry)) ⌝ }
+{
+    if b.len() < SIZE {
+        return Held::Nothing;
+    }
+    if is_marked(b) {
+        return named(fields_in(b));
+    }
+    Held::Nothing
+}
