@@ -38,19 +38,19 @@ extern "C" {
 #endif
 
 /* What each buffer must have. Longer ones are fine, and the bytes beyond are left alone. */
-#define BQ_BLOCK_SIZE 32    /* the state */
-#define BQ_PACKET_SIZE 64   /* a packet, and the reply buffer */
+#define BQ_BLOCK_SIZE 32     /* the state */
+#define BQ_PACKET_SIZE 64    /* a packet, and the reply buffer */
 #define BQ_MESSAGE_SIZE 7609 /* the message buffer: the longest message */
 
 /* Why a call is refused. Where several apply it is the lowest, but BQ_BAD_BLOCK comes before all others. */
-#define BQ_OK 0               /* it is not refused */
-#define BQ_NOT_A_PACKET 1     /* the packet is not 64 bytes long */
-#define BQ_SHORT_REPLY 2      /* the reply buffer is shorter than 64 bytes */
-#define BQ_SHORT_MESSAGE 3    /* the message buffer is shorter than 7,609 bytes */
-#define BQ_WRONG_STATE 4      /* nothing waits for a delivery, or there is nothing to fetch */
-#define BQ_LATE_TICKET 5      /* the delivery is not for the request that waits */
-#define BQ_BAD_DELIVERY 6     /* the delivery is empty, longer than 7,609 bytes, or for a U2F request only 1 byte long */
-#define BQ_BAD_BLOCK 7        /* the block is shorter than 32 bytes, no state's block, or of a state that cannot be */
+#define BQ_OK 0            /* it is not refused */
+#define BQ_NOT_A_PACKET 1  /* the packet is not 64 bytes long */
+#define BQ_SHORT_REPLY 2   /* the reply buffer is shorter than 64 bytes */
+#define BQ_SHORT_MESSAGE 3 /* the message buffer is shorter than 7,609 bytes */
+#define BQ_WRONG_STATE 4   /* nothing waits for a delivery, or there is nothing to fetch */
+#define BQ_LATE_TICKET 5   /* the delivery is not for the request that waits */
+#define BQ_BAD_DELIVERY 6  /* the delivery is empty, longer than 7,609 bytes, or for a U2F request only 1 byte long */
+#define BQ_BAD_BLOCK 7     /* the block is shorter than 32 bytes, no state's block, or of a state that cannot be */
 
 /*
  * The block, for those who want to look into it. Numbers are big-endian, as in packets. What a phase has no use for is 0, so each state
@@ -79,8 +79,8 @@ uint64_t bq_fresh(uint8_t *block, size_t block_len);
 /*
  * A packet from the host. Afterwards
  *   - bq_replied: send the first 64 bytes of the reply buffer;
- *   - bq_ticketed: a whole request stands at the front of the message buffer and waits for the core, under the ticket bq_ticket. Of a
- *     CBOR command, bq_check tells where the hash is;
+ *   - bq_ticketed: a whole request stands at the front of the message buffer and waits for the core, under the ticket bq_ticket;
+ *     bq_request_command and bq_request_size tell what it is. Of a CBOR command, bq_check tells where the hash is;
  *   - and in any case ask bq_fetch whether there is something to send.
  */
 uint64_t bq_packet(uint8_t *block, size_t block_len, const uint8_t *packet, size_t packet_len, uint8_t *reply, size_t reply_len,
@@ -123,6 +123,16 @@ static inline int bq_replied(uint64_t word) { return (int)(word >> 8 & 1); }
 /* Whether a request waits for the core, and its ticket. */
 static inline int bq_ticketed(uint64_t word) { return (int)(word >> 9 & 1); }
 static inline uint32_t bq_ticket(uint64_t word) { return (uint32_t)(word >> 32); }
+
+/*
+ * While a request waits for the core, from the word that told its ticket on: which command it came with (3, a U2F message, or 16, a CBOR
+ * command), and how many bytes at the front of the message buffer are it. Both are read from the block.
+ */
+static inline uint8_t bq_request_command(const uint8_t *block) { return block[3]; }
+static inline uint32_t bq_request_size(const uint8_t *block)
+{
+    return (uint32_t)block[16] << 24 | (uint32_t)block[17] << 16 | (uint32_t)block[18] << 8 | (uint32_t)block[19];
+}
 
 /* Of bq_check: the status, whether there is a hash, and where the hash begins or the command broke. */
 static inline uint8_t bq_status(uint64_t word) { return (uint8_t)(word & 0xff); }
