@@ -1,5 +1,5 @@
 -- What a host reads in a word; and that the place which the checking call tells fits into half of it. Assumes nothing.
-use Prim.Native.Nat.{ℕ, _+_, _/_, _%_, _^_, _≤_, _<_}
+use Prim.Native.Nat.{ℕ, _+_, _*_, _/_, _%_, _^_, _≤_, _<_}
 use mathlib.Core.Path.{_≡_, refl}
 use mathlib.Core.Bool.{Bool, true, false}
 use mathlib.Core.Option.{some}
@@ -10,7 +10,9 @@ use lib.ListN.{length}
 use lib.Dec.{ltb, eqb}
 use borrow.Author.Tests.{ltb-false}
 use Rattle.cbor.specs.Choice.{if_then_else_}
+use Rattle.state.specs.declared.Answer.{Answer}
 use Rattle.state.specs.declared.Answer.the-variants as answer
+use Rattle.state.specs.Answers.{numberOf}
 use Rattle.command.specs.declared.Checked.{Checked}
 use Rattle.command.specs.declared.Checked.the-variants.{Info, Good, Refused}
 use Rattle.command.specs.Status.{invalidLength}
@@ -18,8 +20,8 @@ use Rattle.command.specs.Check.{statusOf, placeOf, longest, checkOf}
 use Rattle.command.proofs.Answers.{shows-the-hash}
 use Rattle.command.proofs.Places.{place-inside}
 use Rattle.machine.proofs.Shapes.{clash}
-use Rattle.firmware.specs.Word.{bit8, bit9, high, wordOf, checkedWord, shows, placeIn}
-use Rattle.firmware.specs.Theorems.{Reads, WordSays, CheckSays}
+use Rattle.firmware.specs.Word.{bit8, bit9, high, wordOf, checkedWord, replies, hands, ticketIn, shows, placeIn, bit}
+use Rattle.firmware.specs.Theorems.{Reads, WordSays, CheckSays, NoOtherBits}
 
 -- a good command is not too long
 not-refused : (a b : Bool) (e at : ℕ) (x : Checked) → (if a then Refused e 0 else if b then Refused e 0 else x) ≡ Good at → b ≡ false
@@ -73,3 +75,18 @@ check-says m h = go (checkOf m) h (λ p e. place-fits m p e)
     go Info i j = (refl, refl, refl, refl)
     go (Good at) i j = bit8-reads at (omega (arith, j at refl))
     go (Refused s at) i j = byte-reads s at i (omega (arith, j at refl))
+
+pub no-other-bits : NoOtherBits
+unfolding wordOf checkedWord
+no-other-bits = (answered, λ m. checks (checkOf m))
+  where
+    answered : (a : Answer) → wordOf a ≡ numberOf a + bit (replies a) * bit8 + bit (hands a) * bit9 + high (ticketIn a)
+    answered (answer.Refused n) = omega arith
+    answered answer.Quiet = refl
+    answered answer.Replied = refl
+    answered (answer.Handed t) = omega arith
+
+    checks : (x : Checked) → checkedWord x ≡ statusOf x + bit (shows x) * bit8 + high (placeIn x)
+    checks Info = refl
+    checks (Good at) = omega arith
+    checks (Refused s at) = omega arith

@@ -1,5 +1,5 @@
--- What is proved of blocks, words and calls on blocks. Each statement is a definition here; its proof stands in proofs/.
-use Prim.Native.Nat.{ℕ, _^_, _≤_, _<_}
+-- What is proved of words and of calls on blocks. Each statement is a definition here; its proof stands in proofs/.
+use Prim.Native.Nat.{ℕ, _+_, _*_, _^_, _≤_, _<_}
 use mathlib.Core.Path.{_≡_}
 use mathlib.Core.Bool.{Bool, true, false}
 use mathlib.Core.List.{List, [], _∷_}
@@ -15,7 +15,7 @@ use Rattle.machine.specs.Call.{sent}
 use Rattle.machine.specs.Run.{Call, after}
 use Rattle.block.specs.declared.Held.the-variants.{Nothing, Kept}
 use Rattle.block.specs.Block.{blockSize, heldIn}
-use Rattle.firmware.specs.Word.{wordOf, lowByte, hasBit8, hasBit9, highHalf, replies, hands, ticketIn, shows, placeIn}
+use Rattle.firmware.specs.Word.{bit8, bit9, high, wordOf, lowByte, hasBit8, hasBit9, highHalf, replies, hands, ticketIn, shows, placeIn, bit}
 use Rattle.firmware.specs.Calls.{Done, done, onBlock, freshOn, checkWord}
 
 -- ---- words
@@ -35,6 +35,12 @@ CheckSays =
     (m : List ℕ) → statusOf (checkOf m) < 2 ^ 8
     → Reads (checkWord m) (statusOf (checkOf m)) (shows (checkOf m)) false (placeIn (checkOf m))
 
+-- all other bits are 0: the word is the sum of what is read in it
+abbrev pub NoOtherBits : Type 0
+NoOtherBits =
+    ((a : Answer) → wordOf a ≡ numberOf a + bit (replies a) * bit8 + bit (hands a) * bit9 + high (ticketIn a))
+    × ((m : List ℕ) → checkWord m ≡ statusOf (checkOf m) + bit (shows (checkOf m)) * bit8 + high (placeIn (checkOf m)))
+
 -- ---- one outcome
 
 -- a call's promise asks for one thing, so two outcomes that it allows are equal: the word, and every byte of the block, the reply buffer
@@ -47,6 +53,7 @@ OneOutcome =
 -- ---- refusals
 
 -- a block that is too short or no state's, or whose state is out of order, is refused with 7 whatever else is wrong, and nothing changes
+-- (`Octets`: what is lent is bytes)
 abbrev pub BadBlock : Type 0
 BadBlock =
     (b reply m : List ℕ) (e : Event)

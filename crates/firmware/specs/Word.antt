@@ -60,6 +60,11 @@ placeIn checked.Info = 0
 placeIn (checked.Good at) = at
 placeIn (checked.Refused status place) = place
 
+-- a bit as a number
+abbrev pub bit : Bool → ℕ
+bit true = 1
+bit false = 0
+
 -- ---- what a host reads in a word, as the header's functions do
 
 abbrev pub lowByte : ℕ → ℕ
