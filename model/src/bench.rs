@@ -151,12 +151,10 @@ pub fn state(key: &Key) -> String {
 fn check(message: &[u8], out: &mut Vec<u8>) {
     let answer = match command::check(message) {
         Err(fault) => refused(fault),
-        Ok(good) if good.hash.is_empty() => "good\n".to_string(),
-        Ok(good) => {
-            // The hash is a part of the message, so its place is the distance of the two.
-            let at = good.hash.as_ptr() as usize - message.as_ptr() as usize;
-            format!("good hash {at}\n")
-        }
+        Ok(good) => match good.hash_place(message) {
+            None => "good\n".to_string(),
+            Some(at) => format!("good hash {at}\n"),
+        },
     };
     out.extend_from_slice(answer.as_bytes());
 }

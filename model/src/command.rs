@@ -63,6 +63,14 @@ pub struct Good<'a> {
     pub hash: &'a [u8],
 }
 
+impl Good<'_> {
+    /// Where the hash begins in the message that was checked; none for GetInfo.
+    pub fn hash_place(&self, message: &[u8]) -> Option<usize> {
+        // The hash is a part of the message, so its place is the distance of the two.
+        (!self.hash.is_empty()).then(|| self.hash.as_ptr() as usize - message.as_ptr() as usize)
+    }
+}
+
 /// Checks a whole command.
 pub fn check(message: &[u8]) -> Result<Good<'_>, Fault> {
     if message.len() > LONGEST {

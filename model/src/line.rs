@@ -127,6 +127,13 @@ pub fn decode(hex: &str) -> Option<Vec<u8>> {
         .collect()
 }
 
+/// Bytes as hex.
+pub fn hex(bytes: &[u8]) -> String {
+    let mut out = Vec::new();
+    encode(bytes, &mut out);
+    String::from_utf8_lossy(&out).into_owned()
+}
+
 /// Writes bytes as hex.
 pub fn encode(bytes: &[u8], out: &mut Vec<u8>) {
     const DIGITS: &[u8; 16] = b"0123456789abcdef";

@@ -5,22 +5,26 @@
 //! [`shrink`] finds the shortest script that still shows a difference. [`breaches`] and [`faults`]
 //! put one thing that is wrong at a known place, and [`apdus`] what is wrong with an APDU, so that
 //! the model's own answer can be tried too: [`cases`] are lines with answers that are known so.
+//!
+//! [`calls`] plays the same scripts to the calls of a firmware, without the bench.
 
 use crate::packet::LONGEST;
 
 pub mod apdus;
 pub mod breaches;
+pub mod calls;
 pub mod cases;
 pub mod commands;
 mod events;
 pub mod faults;
 pub mod item;
 pub mod program;
+pub mod progress;
 pub mod random;
 pub mod run;
 pub mod script;
 pub mod shrink;
-mod states;
+pub(crate) mod states;
 pub mod tally;
 pub mod text;
 pub mod tree;

@@ -5,7 +5,7 @@ use std::fmt;
 use std::sync::atomic::{AtomicU64, Ordering};
 use std::sync::Mutex;
 use std::thread;
-use std::time::{Duration, Instant};
+use std::time::{Duration, Instant, SystemTime};
 
 use super::program::Outcome;
 use super::script::Script;
@@ -30,11 +30,39 @@ pub fn seed_or(default: u64) -> u64 {
     }
 }
 
+/// The seed in `SEED`, or else one of the clock.
+pub fn seed_or_any() -> u64 {
+    let since_1970 = SystemTime::now().duration_since(SystemTime::UNIX_EPOCH);
+    seed_or(since_1970.map_or(0, |time| time.as_millis() as u64))
+}
+
 /// When a run has done enough.
 #[derive(Clone, Copy, Debug)]
 pub enum Enough {
     Events(u64),
     Time(Duration),
+}
+
+impl Enough {
+    /// Reads a count of events, or a time in seconds, as `600s`.
+    pub fn read(word: &str) -> Option<Enough> {
+        match word.strip_suffix('s') {
+            Some(seconds) => seconds
+                .parse()
+                .ok()
+                .map(Duration::from_secs)
+                .map(Enough::Time),
+            None => word.parse().ok().map(Enough::Events),
+        }
+    }
+
+    /// Whether a run with this many events, that began then, has done enough.
+    pub fn is_reached(self, events: u64, begin: Instant) -> bool {
+        match self {
+            Enough::Events(enough) => events >= enough,
+            Enough::Time(time) => begin.elapsed() >= time,
+        }
+    }
 }
 
 /// How far a run has come.
@@ -102,11 +130,7 @@ pub fn compare(
         done.events += tally.0.values().sum::<u64>();
         done.tally.add(tally);
         progress(done);
-        let is_enough = match enough {
-            Enough::Events(events) => done.events >= events,
-            Enough::Time(time) => begin.elapsed() >= time,
-        };
-        if is_enough {
+        if enough.is_reached(done.events, begin) {
             return;
         }
     };

@@ -24,7 +24,10 @@ pub fn shortest(lines: Vec<String>, mut shows: impl FnMut(&[String]) -> bool) ->
 }
 
 /// Leaves out runs of parts, long runs first, until no single part can be left out.
-fn without_parts<T: Clone>(mut parts: Vec<T>, mut still: impl FnMut(&[T]) -> bool) -> Vec<T> {
+pub(super) fn without_parts<T: Clone>(
+    mut parts: Vec<T>,
+    mut still: impl FnMut(&[T]) -> bool,
+) -> Vec<T> {
     let mut run = parts.len().div_ceil(2);
     while run > 0 {
         let mut shorter = false;
@@ -91,7 +94,7 @@ fn shorten_line(lines: &mut [String], at: usize, mut still: impl FnMut(&[String]
 }
 
 /// These bytes at the places kept, and zeros elsewhere.
-fn only(bytes: &[u8], kept: &[usize]) -> Vec<u8> {
+pub(super) fn only(bytes: &[u8], kept: &[usize]) -> Vec<u8> {
     let mut zeroed = vec![0; bytes.len()];
     for &place in kept {
         zeroed[place] = bytes[place];

@@ -1,6 +1,6 @@
 //! What the table tests share.
 
-use model::line;
+pub use model::line::hex;
 use model::trial::program::Program;
 use model::trial::run::compare_lines;
 
@@ -14,10 +14,4 @@ pub fn agree(lines: Vec<String>) {
     if let Err(difference) = compare_lines(&|lines| program.run(lines), lines) {
         panic!("{difference}");
     }
-}
-
-pub fn hex(bytes: &[u8]) -> String {
-    let mut out = Vec::new();
-    line::encode(bytes, &mut out);
-    String::from_utf8_lossy(&out).into_owned()
 }
