@@ -10,8 +10,8 @@
  *
  * What you do, and which call it is:
  *
- *   a 64-byte packet came in from USB           bq_packet
  *   some milliseconds went by                   bq_time      (so that a host that goes silent does not hold the key for ever)
+ *   a 64-byte packet came in from USB           bq_packet    (after the time that went by before it came)
  *   your core has an answer for a ticket        bq_deliver
  *   USB is ready for the next packet out        bq_fetch, until it is refused with BQ_WRONG_STATE
  *
