@@ -168,6 +168,7 @@ fn number(b: &[u8], at: usize) -> u32
     (high * 256 + wide(b[at + 2])) * 256 + wide(b[at + 3])
 }
 
+// The numbers, each from its place.
 fn fields_in(b: &[u8]) -> Fields
     requires { ⌜ blockSize ≤ length (now b) ⌝ }
     ensures { λ r. ⌜ r ≡ fieldsIn (now (b .entry)) ⌝ }
@@ -197,6 +198,7 @@ fn is_marked(b: &[u8]) -> bool
     false
 }
 
+// What a phase has no use for is 0: answering no time, waiting no packets either, idle no message.
 fn no_time(f: Fields) -> bool
     ensures { λ r. ⌜ r ≡ noTime f ⌝ }
 {

@@ -1,5 +1,5 @@
 -- The block after calls is that of the machine's state after them. Assumes nothing.
-use Prim.Native.Nat.{ℕ, _^_, _<_}
+use Prim.Native.Nat.{ℕ, _^_, _≤_, _<_}
 use mathlib.Core.Path.{_≡_, refl}
 use mathlib.Core.Bool.{true}
 use mathlib.Core.List.{List, [], _∷_}
@@ -19,7 +19,7 @@ use Rattle.machine.proofs.Tickets.{tickets-count}
 use Rattle.block.specs.declared.Held.the-variants.{Kept}
 use Rattle.block.specs.Block.{blockSize, fieldsBy, heldIn}
 use Rattle.firmware.specs.Calls.{onHeld, onBlock, freshOn}
-use Rattle.firmware.specs.Theorems.{Meaning, blockAfter, FromFresh, NeverSeven}
+use Rattle.firmware.specs.Theorems.{Means, Meaning, blockAfter, FromFresh, NeverSeven}
 use Rattle.block.proofs.Blocks.{written-back}
 use Rattle.block.proofs.Fitting.{written-held, in-order-fits}
 use Rattle.firmware.proofs.Refusals.{only-bad-blocks}
@@ -29,11 +29,16 @@ ticket-stays : (s : State) (m : List ℕ) (e : Event) → s .work .ticket .0 < 2
 unfolding after
 ticket-stays s m e h = omega (arith, tickets-count s (record { event = e; message = m } ∷ []) h)
 
--- a call on the block of a state in order leaves that of the state after it
-module _ (b reply m : List ℕ) (e : Event) (s : State) (h : heldIn b ≡ Kept s) (o : inOrder s ≡ true) (t : s .work .ticket .0 < 2 ^ 32) where
-  stepped : heldIn (onBlock b reply m e .block) ≡ Kept (step s m e .state)
+module _ (b : List ℕ) (s : State) (h : heldIn b ≡ Kept s) (o : inOrder s ≡ true) (t : s .work .ticket .0 < 2 ^ 32) where
+  -- a call on the block of a state in order leaves that of the state after it
+  stepped : (reply m : List ℕ) (e : Event) → heldIn (onBlock b reply m e .block) ≡ Kept (step s m e .state)
   unfolding onHeld
-  stepped = rw h (written-held (step s m e .state) b (in-order-fits (step s m e .state) (step-kept s m e o .0) (ticket-stays s m e t)))
+  stepped reply m e =
+      rw h (written-held (step s m e .state) b (in-order-fits (step s m e .state) (step-kept s m e o .0) (ticket-stays s m e t)))
+
+  means : Means b s
+  unfolding onHeld
+  means reply m e = (rw h, stepped reply m e, rw h, rw h)
 
 ticket-in : (s : State) (p : Phase) → fieldsBy s p .ticket ≡ s .work .ticket .0
 unfolding fieldsBy
@@ -43,23 +48,29 @@ ticket-in s (Waiting h command n) = refl
 ticket-in s (Answering h command n k) = refl
 
 pub meaning : Meaning
-unfolding onHeld
-meaning b reply m e s oct h o =
-    let t = rw (ticket-in s (s .work .phase)) at (written-back b s oct h .1 .ticket) in
-    (rw h, stepped b reply m e s h o t, rw h, rw h)
+meaning b s oct h o = means b s h o (rw (ticket-in s (s .work .phase)) at (written-back b s oct h .1 .ticket))
+
+-- ---- any calls
 
 calls-mean : (b : List ℕ) (s : State) (calls : List Call) → heldIn b ≡ Kept s → inOrder s ≡ true → s .work .ticket .0 < 2 ^ 32
     → heldIn (blockAfter b calls) ≡ Kept (after s calls)
 unfolding blockAfter after
 calls-mean b s [] h o t = h
 calls-mean b s (c ∷ cs) h o t =
-    calls-mean _ (turn s c .state) cs (stepped b [] (c .message) (c .event) s h o t) (step-kept s (c .message) (c .event) o .0) (ticket-stays s (c .message) (c .event) t)
+    calls-mean _ (turn s c .state) cs (stepped b s h o t [] (c .message) (c .event)) (step-kept s (c .message) (c .event) o .0) (ticket-stays s (c .message) (c .event) t)
+
+first-ticket : fresh .work .ticket .0 < 2 ^ 32
+first-ticket = omega arith
+
+fresh-calls : (b : List ℕ) (calls : List Call) → blockSize ≤ length b → heldIn (blockAfter (freshOn b .block) calls) ≡ Kept (after fresh calls)
+unfolding freshOn _⇒_else_
+fresh-calls b calls l =
+    rw (le-ltb (length b) blockSize l) (calls-mean _ fresh calls (written-held fresh b (in-order-fits fresh fresh-in first-ticket)) fresh-in first-ticket)
 
 pub from-fresh : FromFresh
-unfolding freshOn _⇒_else_
 from-fresh b calls l =
-    let zero : fresh .work .ticket .0 < 2 ^ 32 = omega arith in
-    rw (le-ltb (length b) blockSize l) (calls-mean _ fresh calls (written-held fresh b (in-order-fits fresh fresh-in zero)) fresh-in zero)
+    let h = fresh-calls b calls l in
+    (h, means _ (after fresh calls) h (never-out-of-order calls) (omega (arith, tickets-count fresh calls first-ticket)))
 
-pub never-seven-here : NeverSeven
-never-seven-here b calls reply m e l w = only-bad-blocks _ reply m e (after fresh calls) (from-fresh b calls l) (never-out-of-order calls) w
+pub never-seven : NeverSeven
+never-seven b calls reply m e l w = only-bad-blocks _ reply m e (after fresh calls) (fresh-calls b calls l) (never-out-of-order calls) w

@@ -79,10 +79,10 @@ BeyondStays =
 
 -- ---- the block's meaning
 
--- a call on the block of a state in order does what the machine does in that state, and leaves the block of the state after it
-abbrev pub Meaning : Type 0
-Meaning =
-    (b reply m : List ℕ) (e : Event) (s : State) → Octets b → heldIn b ≡ Kept s → inOrder s ≡ true
+-- every call on these bytes does what the machine does in this state, and leaves the block of the state after it
+abbrev pub Means : List ℕ → State → Type 0
+Means b s =
+    (reply m : List ℕ) (e : Event)
     → let d = onBlock b reply m e in
     let t = step s m e in
     (d .word ≡ wordOf (t .answer))
@@ -90,16 +90,21 @@ Meaning =
     × (d .reply ≡ sent (t .reply) reply)
     × (d .message ≡ t .message)
 
+-- the block of a state in order means that state
+abbrev pub Meaning : Type 0
+Meaning = (b : List ℕ) (s : State) → Octets b → heldIn b ≡ Kept s → inOrder s ≡ true → Means b s
+
 -- the block after calls, each with the message buffer that it is lent (the block does not depend on what stands in the reply buffer)
 unfoldable pub blockAfter : List ℕ → List Call → List ℕ
 blockAfter b [] = b
 blockAfter b (c ∷ cs) = blockAfter (onBlock b [] (c .message) (c .event) .block) cs
 
--- a key that is made fresh in a block of 32 bytes or more: whatever calls are made of it, its block means the machine's state after them. So
--- all that is proved of a fresh key and any calls is proved of the block.
+-- a key that is made fresh in a block of 32 bytes or more: whatever calls are made of it, its block is that of the machine's state after them,
+-- and the next call does what the machine does in that state
 abbrev pub FromFresh : Type 0
 FromFresh =
-    (b : List ℕ) (calls : List Call) → blockSize ≤ length b → heldIn (blockAfter (freshOn b .block) calls) ≡ Kept (after fresh calls)
+    (b : List ℕ) (calls : List Call) → blockSize ≤ length b
+    → (heldIn (blockAfter (freshOn b .block) calls) ≡ Kept (after fresh calls)) × Means (blockAfter (freshOn b .block) calls) (after fresh calls)
 
 -- and it is never refused with 7
 abbrev pub NeverSeven : Type 0
