@@ -21,7 +21,7 @@ use Rattle.machine.proofs.Shapes.{clash}
 use Rattle.block.specs.declared.Fields.{Fields}
 use Rattle.block.specs.declared.Held.{Held}
 use Rattle.block.specs.declared.Held.the-variants.{Nothing, Kept}
-use Rattle.block.specs.Block.{blockSize, mark0, mark1, fieldsBy, bytesOf, blockOf, fieldsIn, marked, noTime, noPackets, noMessage, keptWhen, named, heldIn}
+use Rattle.block.specs.Block.{blockSize, mark0, mark1, fieldsBy, bytesOf, blockOf, fieldsIn, marked, noTime, noPackets, noMessage, stateWith, keptWhen, named, heldIn}
 use Rattle.block.specs.Theorems.{Fit, ReadBack, WrittenBack, OneState, NoStatesBlock}
 
 -- ---- from a state to its block and back
@@ -159,10 +159,10 @@ module _ (f : Fields) (s : State) where
   nothing-named e = clash (cc)
 
   -- a state that is kept has what the phase has no use for 0
-  when-kept : (unused : Bool) (p : Phase) → (unused ≡ true → fieldsBy (record { given = f .given; work = record { ticket = record { 0 = f .ticket }; phase = p } }) p ≡ f) → Named (keptWhen unused f p)
+  when-kept : (unused : Bool) (p : Phase) → (unused ≡ true → fieldsBy (stateWith f p) p ≡ f) → Named (keptWhen unused f p)
   unfolding keptWhen _⇒_else_
   when-kept true p g e =
-      let q : record { given = f .given; work = record { ticket = record { 0 = f .ticket }; phase = p } } ≡ s = cc in
+      let q : stateWith f p ≡ s = cc in
       rw (sym q) (g refl)
   when-kept false p g e = clash (cc)
 

@@ -103,10 +103,12 @@ noPackets f = all (eqb (f .done) 0 ∷ noTime f ∷ [])
 unfoldable pub noMessage : Fields → Bool
 noMessage f = all (eqb (f .command) 0 ∷ eqb (f .holder) 0 ∷ eqb (f .size) 0 ∷ noPackets f ∷ [])
 
+-- the state with these numbers in this phase, where the phase has no use for the others
+abbrev pub stateWith : Fields → Phase → State
+stateWith f p = record { given = f .given; work = record { ticket = record { 0 = f .ticket }; phase = p } }
+
 unfoldable pub keptWhen : Bool → Fields → Phase → Held
-keptWhen unused f p =
-    unused ⇒ Kept (record { given = f .given; work = record { ticket = record { 0 = f .ticket }; phase = p } }) else
-    Nothing
+keptWhen unused f p = unused ⇒ Kept (stateWith f p) else Nothing
 
 unfoldable pub named : Fields → Held
 named f =

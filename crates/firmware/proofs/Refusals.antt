@@ -1,5 +1,5 @@
 -- A word has the number of a refusal where the call was refused, and then nothing changes. Assumes nothing.
-use Prim.Native.Nat.{ℕ, _+_, _*_, _^_, _<_}
+use Prim.Native.Nat.{ℕ, _+_, _<_}
 use mathlib.Core.Path.{_≡_, refl, sym, ap, _∙_}
 use mathlib.Core.Bool.{true}
 use mathlib.Core.List.{List}
@@ -22,7 +22,7 @@ use Rattle.machine.proofs.Refusals.{refusal-changes-nothing}
 use Rattle.block.specs.declared.Held.{Held}
 use Rattle.block.specs.declared.Held.the-variants.{Nothing, Kept}
 use Rattle.block.specs.Block.{blockSize, blockOf, heldIn}
-use Rattle.firmware.specs.Word.{wordOf, lowByte}
+use Rattle.firmware.specs.Word.{bit9, high, wordOf, lowByte}
 use Rattle.firmware.specs.Calls.{Done, done, written, onHeld}
 use Rattle.firmware.specs.Theorems.{OneOutcome, BadBlock, OnlyBadBlocks, RefusalChangesNothing, BeyondStays}
 use Rattle.block.proofs.Blocks.{held-long}
@@ -31,11 +31,11 @@ use Rattle.block.proofs.Fitting.{block-length, onto-block, unchanged}
 
 -- ---- the number in a word
 
-module _ (s : State) (m : List ℕ) (e : Event) where
-  -- Handed's ticket does not reach into the low byte
-  handed-low : (n : ℕ) → lowByte (2 ^ 9 + n * 2 ^ 32) ≡ 0
-  handed-low n = omega arith
+-- a ticket does not reach into the low byte
+handed-low : (n : ℕ) → lowByte (bit9 + high n) ≡ 0
+handed-low n = omega arith
 
+module _ (s : State) (m : List ℕ) (e : Event) where
   number-by : {t : Turn State} → inOrder s ≡ true → Shape s m e t → (lowByte (wordOf (t .answer)) ≡ numberOf (t .answer)) × (numberOf (t .answer) < 7)
   unfolding wordOf
   number-by o (shapes.refusal k l) = let h = l o in (omega arith, h)
@@ -79,7 +79,7 @@ module _ (b reply m : List ℕ) (e : Event) (o : Octets b) (s : State) (h : held
       rw (refusal-changes-nothing s m e k q, low) (ap (λ (x : List ℕ). done k x reply m) (unchanged s b o h))
   still Quiet q z = absurd (z refl)
   still Replied q z = absurd (z refl)
-  still (Handed t) q z = absurd (z (handed-low s m e (t .0)))
+  still (Handed t) q z = absurd (z (handed-low (t .0)))
 
 pub refused-unchanged : RefusalChangesNothing
 unfolding onHeld
