@@ -1,12 +1,15 @@
 /*
  * bellaqsum.h: the touch key's protocol for a firmware in C99.
  *
- * The key holds no memory of its own. Your firmware lends it three things, and they are yours between calls:
+ * The key holds no memory of its own. Your firmware lends it three things:
  *
  *   block      32 bytes, the key's state. Make it with bq_fresh once, when the key is plugged in; each call reads and rewrites it.
  *   message    7,609 bytes or more: the one message that is gathered, and then the reply to it. While a request waits for the core
  *              (a ticket was reported), your core reads the request here.
  *   reply      64 bytes or more: a packet to send to the host, if the call says that it wrote one.
+ *
+ * Between calls they are yours to read. Leave the block as it is, and the message buffer too while a message is gathered or a reply is
+ * fetched: what stands there then is what is handed to the core, or sent.
  *
  * What you do, and which call it is:
  *
@@ -55,7 +58,7 @@ extern "C" {
 
 /*
  * The block, for those who want to look into it. Numbers are big-endian, as in packets. What a phase has no use for is 0, so each state
- * has one block; bytes that are no state's block are refused with BQ_BAD_BLOCK, memory that was cleared or never made fresh among them.
+ * has one block; bytes that are no state's block are refused with BQ_BAD_BLOCK, cleared memory among them.
  *
  *   bytes    what                          idle   gathering   waiting   answering
  *   0, 1     42 51
