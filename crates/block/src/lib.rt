@@ -1,4 +1,5 @@
 // The block: a state in 32 bytes (docs/BLOCK.md).
+use cbor::bytes;
 use state::Phase;
 use state::State;
 use state::Ticket;
@@ -6,7 +7,7 @@ use state::Work;
 use wire::Channel;
 use wire::copying;
 ghost use mathlib.Core.Path.{_≡_};
-ghost use Prim.Native.Nat.{_+_, _≤_, _<_};
+ghost use Prim.Native.Nat.{_+_, _≤_};
 ghost use lib.ListN.{length};
 ghost use Rattle.wire.specs.Copying.{overwrite};
 ghost use Rattle.wire.specs.Packet.{bytes4};
@@ -153,19 +154,12 @@ pub fn of_state(s: State) -> [u8; 32]
 
 // ---- reading
 
-fn wide(b: u8) -> u32
-    ensures { λ r. ⌜ (r ≡ b) × (r < 256) ⌝ }
-{
-    b as u32
-}
-
-// Four bytes from a place on, high byte first.
+// The number of four bytes at a place.
 fn number(b: &[u8], at: usize) -> u32
     requires { ⌜ at + 4 ≤ length (now b) ⌝ }
     ensures { λ r. ⌜ r ≡ u32At (now (b .entry)) at ⌝ }
 {
-    let high = wide(b[at]) * 256 + wide(b[at + 1]);
-    (high * 256 + wide(b[at + 2])) * 256 + wide(b[at + 3])
+    bytes::u32_at(b, at) as u32
 }
 
 // The numbers, each from its place.

@@ -4,7 +4,7 @@ ghost use Prim.Native.Nat.{_+_, _*_, _≤_, _<_};
 ghost use lib.ListN.{length};
 ghost use Rattle.cbor.specs.Bytes.{u8At, u16At, u32At, u64At};
 
-pub(crate) fn wide(x: u8) -> u64
+pub fn wide(x: u8) -> u64
     ensures { λ r. ⌜ (r ≡ x) × (r < 0x100) ⌝ }
 {
     x as u64
@@ -24,7 +24,7 @@ pub(crate) fn u16_at(s: &[u8], i: usize) -> u64
     join(wide(s[i]), s[i + 1])
 }
 
-pub(crate) fn u32_at(s: &[u8], i: usize) -> u64
+pub fn u32_at(s: &[u8], i: usize) -> u64
     requires { ⌜ i + 4 ≤ length (now s) ⌝ }
     ensures { λ r. ⌜ (r ≡ u32At (now (s .entry)) i) × (r < 0x1_0000_0000) ⌝ }
 {

@@ -4,7 +4,7 @@ ghost use mathlib.Core.Path.{_≡_};
 ghost use Rattle.cbor.specs.Item.{keyOf, itemOf};
 ghost use Rattle.cbor.specs.Answer.{fromNumber};
 
-mod bytes;
+pub mod bytes;
 mod head;
 mod order;
 mod reader;

@@ -1,4 +1,5 @@
 // The word of 64 bits that a call answers.
+use cbor::bytes;
 use command::Checked;
 use state::Answer;
 ghost use mathlib.Core.Path.{_≡_};
@@ -10,12 +11,6 @@ ghost use Rattle.firmware.specs.Word.{high, wordOf, checkedWord};
 const BIT_8: u64 = 0x100;
 
 const BIT_9: u64 = 0x200;
-
-fn low(n: u8) -> u64
-    ensures { λ r. ⌜ (r ≡ n) × (n < 2 ^ 8) ⌝ }
-{
-    n as u64
-}
 
 // A number in bits 32 to 63.
 fn high(n: u32) -> u64
@@ -29,7 +24,7 @@ pub fn of_answer(a: Answer) -> u64
     ensures { λ r. ⌜ r ≡ wordOf a ⌝ }
 {
     match a {
-        Answer::Refused(n) => low(n),
+        Answer::Refused(n) => bytes::wide(n),
         Answer::Quiet => 0,
         Answer::Replied => BIT_8,
         Answer::Handed(t) => BIT_9 + high(t.0),
@@ -44,6 +39,6 @@ pub fn of_checked(c: Checked) -> u64
     match c {
         Checked::Info => 0,
         Checked::Good(at) => BIT_8 + high(at as u32),
-        Checked::Refused(status, place) => low(status) + high(place as u32),
+        Checked::Refused(status, place) => bytes::wide(status) + high(place as u32),
     }
 }

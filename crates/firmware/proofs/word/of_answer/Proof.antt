@@ -6,7 +6,7 @@ use Rattle.firmware.proofs.word.of_answer.Tie as tie
 
 returns : tie.Need-returns
 unfolding wordOf
-returns c = simp (c .low .ensures .0, c .before .before .a .given .1)
+returns c = simp (c .wide .ensures .0, c .before .before .a .given .1)
 
 returns-2 : tie.Need-returns-2
 unfolding wordOf

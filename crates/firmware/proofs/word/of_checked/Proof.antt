@@ -23,7 +23,7 @@ returns-2 c = simp (c .high .ensures .0, c .before .before .c .given .1)
 
 returns-3 : tie.Need-returns-3
 unfolding checkedWord
-returns-3 c = simp (c .high2 .ensures .0, c .before .low .ensures .0, c .before .before .before .c2 .given .1)
+returns-3 c = simp (c .high2 .ensures .0, c .before .wide .ensures .0, c .before .before .before .c2 .given .1)
 
 pub of-checked-spec : {M : Type 1} → statement M
 of-checked-spec =
