@@ -5,14 +5,15 @@ use state::State;
 use state::Ticket;
 use state::Work;
 use wire::Channel;
-use wire::copying;
+use wire::packet;
 ghost use mathlib.Core.Path.{_≡_};
+ghost use mathlib.Core.List.{[], _∷_, _++_};
 ghost use Prim.Native.Nat.{_+_, _≤_};
-ghost use lib.ListN.{length};
-ghost use Rattle.wire.specs.Copying.{overwrite};
+ghost use lib.ListN.{length, replicate};
+ghost use Rattle.wire.specs.Copying.{onto, overwrite};
 ghost use Rattle.wire.specs.Packet.{bytes4};
 ghost use Rattle.cbor.specs.Bytes.{u32At};
-ghost use Rattle.block.specs.Block.{blockSize, fieldsWith, fieldsBy, bytesOf, blockOf, fieldsIn, marked, noTime, noPackets, noMessage, keptWhen, named, heldIn};
+ghost use Rattle.block.specs.Block.{blockSize, mark0, mark1, fieldsWith, fieldsBy, bytesOf, blockOf, fieldsIn, marked, noTime, noPackets, noMessage, keptWhen, named, heldIn};
 
 pub const SIZE: usize = 32;
 
@@ -50,44 +51,38 @@ pub enum Held {
 
 // ---- writing
 
-// A number in four bytes, high byte first.
-fn in_four(n: usize) -> [u8; 4]
-    ensures { λ r. ⌜ r ≡ bytes4 n ⌝ }
+// The mark, and the two numbers of one byte.
+fn put_mark(b: &mut [u8], phase: u8, command: u8)
+    requires { ⌜ blockSize ≤ length (now b) ⌝ }
+    ensures { λ _. ⌜ now (b .exit) ≡ onto (mark0 ∷ mark1 ∷ phase ∷ command ∷ []) (now (b .entry)) ⌝ }
 {
-    let mut p = [0u8; 4];
-    p[0] = (n / 256 / 256 / 256 % 256) as u8;
-    p[1] = (n / 256 / 256 % 256) as u8;
-    p[2] = (n / 256 % 256) as u8;
-    p[3] = (n % 256) as u8;
-    p
+    b[0] = MARK_0;
+    b[1] = MARK_1;
+    b[2] = phase;
+    b[3] = command;
 }
 
-// A block with a number at a place.
-fn with_number(b: [u8; 32], at: usize, n: usize) -> [u8; 32]
-    requires { ⌜ at + 4 ≤ blockSize ⌝ }
-    ensures { λ r. ⌜ r ≡ overwrite at (bytes4 n) b ⌝ }
+// The numbers of a message and of its packets, and four zeros.
+fn put_message(b: &mut [u8], holder: u32, size: usize, done: usize, left: u32)
+    requires { ⌜ blockSize ≤ length (now b) ⌝ }
+    ensures { λ _. ⌜ now (b .exit) ≡ overwrite 12 (bytes4 holder ++ bytes4 size ++ bytes4 done ++ bytes4 left ++ replicate 4 0) (now (b .entry)) ⌝ }
 {
-    let four = in_four(n);
-    let mut p = b;
-    copying::copy_at(&mut p, at, &four);
-    p
+    packet::number_at(b, 12, holder as usize);
+    packet::number_at(b, 16, size);
+    packet::number_at(b, 20, done);
+    packet::number_at(b, 24, left as usize);
+    packet::number_at(b, 28, 0);
 }
 
 // Where the numbers stand.
-fn bytes_of(f: Fields) -> [u8; 32]
-    ensures { λ r. ⌜ r ≡ bytesOf f ⌝ }
+fn put_fields(b: &mut [u8], f: Fields)
+    requires { ⌜ blockSize ≤ length (now b) ⌝ }
+    ensures { λ _. ⌜ now (b .exit) ≡ onto (bytesOf f) (now (b .entry)) ⌝ }
 {
-    let mut b = [0u8; 32];
-    b[0] = MARK_0;
-    b[1] = MARK_1;
-    b[2] = f.phase;
-    b[3] = f.command;
-    let with_given = with_number(b, 4, f.given as usize);
-    let with_ticket = with_number(with_given, 8, f.ticket as usize);
-    let with_holder = with_number(with_ticket, 12, f.holder as usize);
-    let with_size = with_number(with_holder, 16, f.size);
-    let with_done = with_number(with_size, 20, f.done);
-    with_number(with_done, 24, f.left as usize)
+    put_mark(b, f.phase, f.command);
+    packet::number_at(b, 4, f.given as usize);
+    packet::number_at(b, 8, f.ticket as usize);
+    put_message(b, f.holder, f.size, f.done, f.left);
 }
 
 // A state's numbers, with those of its phase.
@@ -145,11 +140,12 @@ fn fields_of(s: State) -> Fields
     }
 }
 
-// The block of a state.
-pub fn of_state(s: State) -> [u8; 32]
-    ensures { λ r. ⌜ r ≡ blockOf s ⌝ }
+// The block of a state, over the front of these bytes.
+pub fn put_state(b: &mut [u8], s: State)
+    requires { ⌜ blockSize ≤ length (now b) ⌝ }
+    ensures { λ _. ⌜ now (b .exit) ≡ onto (blockOf s) (now (b .entry)) ⌝ }
 {
-    bytes_of(fields_of(s))
+    put_fields(b, fields_of(s));
 }
 
 // ---- reading

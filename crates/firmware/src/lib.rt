@@ -7,7 +7,6 @@ use state::State;
 use state::Ticket;
 use state::Work;
 use state::outcomes;
-use wire::copying;
 ghost use mathlib.Core.Path.{_≡_};
 ghost use mathlib.Core.List.{List, []};
 ghost use Prim.Native.Nat.{ℕ, _≤_};
@@ -29,8 +28,7 @@ fn keep(block: &mut [u8], o: Outcome) -> u64
 {
     let answer = o.answer;
     let state = o.state;
-    let bytes = block::of_state(state);
-    copying::copy_front(block, &bytes);
+    block::put_state(block, state);
     word::of_answer(answer)
 }
 

@@ -44,7 +44,7 @@ pub fn continuation(s: State, bytes: &[u8], reply: &mut [u8], message: &mut [u8]
                         message,
                     );
                 }
-                packet::send(reply, packet::error_on(c, table::INVALID_NUMBER));
+                packet::send_error(reply, c, table::INVALID_NUMBER);
                 return outcomes::replied(outcomes::in_phase(s, Phase::Idle));
             }
             outcomes::quiet(s)

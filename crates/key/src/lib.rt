@@ -58,7 +58,7 @@ fn run_down(
     ensures { λ r. ⌜ ((m : List ℕ) → effect r (now (reply .exit)) m ≡ asked (now (reply .entry)) (beside (s .given) (timeRows (s .work) (Phase.Gathering holder command size done left) elapsed m))) ⌝ }
 {
     if left <= elapsed {
-        packet::send(reply, packet::error_on(holder, table::TIME_OUT));
+        packet::send_error(reply, holder, table::TIME_OUT);
         return outcomes::replied(outcomes::in_phase(s, Phase::Idle));
     }
     let rest = left - elapsed;
@@ -224,10 +224,7 @@ pub fn fetch(s: State, reply: &mut [u8], message: &[u8]) -> Outcome
                 size,
                 done,
             } => {
-                packet::send(
-                    reply,
-                    packet::packet_of(holder, command, size, done, message),
-                );
+                packet::send(reply, holder, command, size, done, message);
                 outcomes::replied(outcomes::in_phase(s, advance(holder, command, size, done)))
             }
             Phase::Idle => outcomes::refused(s, 4),

@@ -62,19 +62,19 @@ fn carry_out(v: Verdict, s: State, bytes: &[u8], reply: &mut [u8], message: &mut
     match v {
         Verdict::Nothing => outcomes::quiet(s),
         Verdict::Error(code) => {
-            packet::send(reply, packet::error_on(c, code));
+            packet::send_error(reply, c, code);
             outcomes::replied(s)
         }
         Verdict::Dropped(code) => {
-            packet::send(reply, packet::error_on(c, code));
+            packet::send_error(reply, c, code);
             outcomes::replied(outcomes::in_phase(s, Phase::Idle))
         }
         Verdict::NextChannel => {
-            packet::send(reply, packet::init_reply(bytes, Channel(s.given + 1)));
+            packet::send_init(reply, bytes, Channel(s.given + 1));
             outcomes::replied(one_more(s))
         }
         Verdict::ThisChannel => {
-            packet::send(reply, packet::init_reply(bytes, c));
+            packet::send_init(reply, bytes, c);
             outcomes::replied(outcomes::in_phase(s, Phase::Idle))
         }
         Verdict::Cancelled => {

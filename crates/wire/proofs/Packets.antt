@@ -6,9 +6,10 @@ use native.Mathlib.Omega.{arith}
 use lib.ListN.{length, take, drop, replicate, length-append, length-take, length-replicate, replicate-append-replicate}
 use lib.Seq.{take-append-seam, drop-append-add, drop-at}
 use Rattle.wire.specs.declared.Channel.{Channel}
-use Rattle.wire.specs.Copying.{overwrite}
+use Rattle.wire.specs.Copying.{onto, overwrite}
 use Rattle.wire.specs.Cutting.{packetsNeeded, begins, room, carries, cut}
 use Rattle.wire.specs.Packet.{packets, bytes4, bytes2, filled, packetOf}
+use Rattle.wire.proofs.Copies.{onto-more}
 use Rattle.wire.proofs.Cuts.{begins-within, carries-within}
 
 -- a packet that is still to be done begins inside the message, and there are at most 129
@@ -38,24 +39,13 @@ unfolding carries room
 later-fits n zero h = absurd (h refl)
 later-fits n (suc k) h = omega arith
 
-drop-zeros : (n k : ℕ) → n ≤ k → drop {A = ℕ} n (replicate k 0) ≡ replicate (k - n) 0
-drop-zeros n k h =
-    let e : k ≡ n + (k - n) = omega arith in
-    ap (λ (j : ℕ). drop {A = ℕ} n (replicate j 0)) e
-    ∙ ap (drop {A = ℕ} n) (sym (replicate-append-replicate n (k - n) 0))
-    ∙ drop-at (replicate n 0) (replicate (k - n) 0) n (length-replicate n 0)
-
--- a payload written behind a header leaves zeros in unused bytes
-pub filled-more : (header payload : List ℕ) → length header + length payload ≤ 64
-    → overwrite (length header) payload (filled header) ≡ filled (header ++ payload)
-unfolding overwrite filled
-filled-more header payload h =
-    let e : 64 - length header - length payload ≡ 64 - length (header ++ payload) = simp length-append (omega arith) in
-    simp (take-append-seam, drop-append-add, drop-zeros (length payload) (64 - length header) (omega arith), e, append-assoc)
-
-cut-length : (n k : ℕ) (buffer : List ℕ) → length (cut 57 59 n k buffer) ≤ room 57 59 k
-unfolding cut carries
-cut-length n k buffer = simp length-take (omega arith)
+-- a payload behind a header, and zeros in unused bytes
+pub filled-onto : (header payload buffer : List ℕ)
+    → overwrite (length header) (payload ++ replicate (64 - (length header + length payload)) 0) (onto header buffer) ≡ onto (filled (header ++ payload)) buffer
+unfolding filled
+filled-onto header payload buffer =
+    let e : length header + length payload ≡ length (header ++ payload) = sym (length-append header payload) in
+    onto-more header (payload ++ replicate (64 - (length header + length payload)) 0) buffer ∙ rw (e, append-assoc)
 
 -- the part of the buffer that the code takes is the payload
 part-is : (n k at size : ℕ) (buffer : List ℕ) → at ≡ begins 57 59 k → size ≡ carries 57 59 n k
@@ -65,22 +55,26 @@ part-is n k at size buffer a b =
     let e : at + size - at ≡ size = omega arith in
     rw (e, a, b)
 
--- header and payload make the packet, of each kind
-module _ (c : Channel) (command n at size : ℕ) (buffer : List ℕ) where
+-- header, payload and zeros make the packet, of each kind
+module _ (c : Channel) (command n at size : ℕ) (buffer reply : List ℕ) where
   pub first-packet : (k : ℕ) → k ≡ 0 → at ≡ begins 57 59 k → size ≡ carries 57 59 n k
-      → overwrite 7 (take (at + size - at) (drop at buffer)) (filled (bytes4 (c .0) ++ (128 + command) ∷ bytes2 n)) ≡ packetOf c command n k buffer
-  unfolding packetOf room bytes4 bytes2
+      → overwrite 7 (take (at + size - at) (drop at buffer) ++ replicate (64 - (7 + length (take (at + size - at) (drop at buffer)))) 0)
+      (onto (bytes4 (c .0) ++ (128 + command) ∷ bytes2 n) reply)
+      ≡ onto (packetOf c command n k buffer) reply
+  unfolding packetOf bytes4 bytes2
   first-packet zero z a b =
-      rw (part-is n 0 at size buffer a b) (filled-more (bytes4 (c .0) ++ (128 + command) ∷ bytes2 n) (cut 57 59 n 0 buffer) (omega (arith, cut-length n 0 buffer)))
+      rw (part-is n 0 at size buffer a b) (filled-onto (bytes4 (c .0) ++ (128 + command) ∷ bytes2 n) (cut 57 59 n 0 buffer) reply)
   first-packet (suc k) z a b = absurd (omega arith)
 
   pub later-packet : (k : ℕ) → (k ≡ 0 → ⊥) → k < 129 → at ≡ begins 57 59 k → size ≡ carries 57 59 n k
-      → overwrite 5 (take (at + size - at) (drop at buffer)) (filled (bytes4 (c .0) ++ ((k - 1) % 256) ∷ [])) ≡ packetOf c command n k buffer
-  unfolding packetOf room bytes4
+      → overwrite 5 (take (at + size - at) (drop at buffer) ++ replicate (64 - (5 + length (take (at + size - at) (drop at buffer)))) 0)
+      (onto (bytes4 (c .0) ++ ((k - 1) % 256) ∷ []) reply)
+      ≡ onto (packetOf c command n k buffer) reply
+  unfolding packetOf bytes4
   later-packet zero z h a b = absurd (z refl)
   later-packet (suc k) z h a b =
       let e : (suc k - 1) % 256 ≡ k = omega arith in
-      rw (part-is n (suc k) at size buffer a b, e) (filled-more (bytes4 (c .0) ++ k ∷ []) (cut 57 59 n (suc k) buffer) (omega (arith, cut-length n (suc k) buffer)))
+      rw (part-is n (suc k) at size buffer a b, e) (filled-onto (bytes4 (c .0) ++ k ∷ []) (cut 57 59 n (suc k) buffer) reply)
 
 -- eight bytes over the front of the INIT reply's content
 pub nonce-over : (nonce rest : List ℕ) → length nonce ≡ 8

@@ -1,19 +1,23 @@
 // How a message is cut into payloads, over the payload size of the first packet and of each later one.
 use crate::copying;
 ghost use mathlib.Core.Path.{_≡_};
-ghost use Prim.Native.Nat.{_+_, _≤_, _<_};
+ghost use Prim.Native.Nat.{_+_, _-_, _≤_, _<_};
 ghost use lib.ListN.{length};
 ghost use Rattle.wire.specs.Cutting.{packetsNeeded, begins, room, carries, put};
+
+// How many bytes of a message of n bytes the first packet has no room for.
+fn behind_first(first: usize, n: usize) -> usize
+    ensures { λ r. ⌜ r ≡ n - first ⌝ }
+{
+    if n <= first { 0 } else { n - first }
+}
 
 // How many packets a message of n bytes needs.
 pub fn packets_needed(first: usize, later: usize, n: usize) -> usize
     requires { ⌜ (0 < later) × (later ≤ 65535) × (n ≤ 65535) ⌝ }
     ensures { λ r. ⌜ r ≡ packetsNeeded first later n ⌝ }
 {
-    if n <= first {
-        return 1;
-    }
-    (n - first + (later - 1)) / later + 1
+    (behind_first(first, n) + (later - 1)) / later + 1
 }
 
 // Where the payload of packet k begins in the message.

@@ -3,11 +3,11 @@ use crate::Channel;
 use crate::copying;
 use crate::cutting;
 ghost use mathlib.Core.Path.{_≡_};
-ghost use Prim.Native.Nat.{_+_, _≤_, _<_};
+ghost use Prim.Native.Nat.{_+_, _-_, _≤_, _<_};
 ghost use mathlib.Core.List.{[], _∷_, _++_};
-ghost use lib.ListN.{length};
+ghost use lib.ListN.{length, replicate};
 ghost use Rattle.wire.specs.Copying.{onto, overwrite};
-ghost use Rattle.wire.specs.Packet.{packetSize, longest, packets, bytes4, bytes2, filled, channelOf, commandOf, lengthOf, numberOf, packetOf, errorOn, initReply};
+ghost use Rattle.wire.specs.Packet.{packetSize, longest, packets, bytes4, bytes2, channelOf, commandOf, lengthOf, numberOf, packetOf, errorOn, initReply};
 
 // Every packet has 64 bytes; an opening packet has room for 57 bytes of payload, a continuation for 59.
 pub const SIZE: usize = 64;
@@ -89,85 +89,91 @@ pub fn count(n: usize) -> usize
     cutting::packets_needed(FIRST, LATER, n)
 }
 
-// The header of an opening packet, and zeros.
-fn opening_header(c: Channel, command: u8, n: usize) -> [u8; 64]
-    requires { ⌜ command < 128 ⌝ }
-    ensures { λ r. ⌜ r ≡ filled (bytes4 (c .0) ++ (128 + command) ∷ bytes2 n) ⌝ }
+// A number in four bytes, high byte first.
+fn in_four(n: usize) -> [u8; 4]
+    ensures { λ r. ⌜ r ≡ bytes4 n ⌝ }
 {
-    let mut p = later_header(c, 128 + command);
-    p[5] = (n / 256 % 256) as u8;
-    p[6] = (n % 256) as u8;
-    p
-}
-
-// The channel and byte 4, and zeros.
-fn later_header(c: Channel, byte4: u8) -> [u8; 64]
-    ensures { λ r. ⌜ r ≡ filled (bytes4 (c .0) ++ byte4 ∷ []) ⌝ }
-{
-    let n = c.0;
-    let mut p = [0u8; 64];
+    let mut p = [0u8; 4];
     p[0] = (n / 256 / 256 / 256 % 256) as u8;
     p[1] = (n / 256 / 256 % 256) as u8;
     p[2] = (n / 256 % 256) as u8;
     p[3] = (n % 256) as u8;
-    p[4] = byte4;
     p
 }
 
-// A header with the payload behind it.
-fn with_payload(header: [u8; 64], at: usize, payload: &[u8]) -> [u8; 64]
-    requires { ⌜ at + length (now payload) ≤ packetSize ⌝ }
-    ensures { λ r. ⌜ r ≡ overwrite at (now (payload .entry)) header ⌝ }
+// A number in the four bytes from `at` on. They are made first and copied as one: the compiler then stores them as one number.
+pub fn number_at(buffer: &mut [u8], at: usize, n: usize)
+    requires { ⌜ at + 4 ≤ length (now buffer) ⌝ }
+    ensures { λ _. ⌜ now (buffer .exit) ≡ overwrite at (bytes4 n) (now (buffer .entry)) ⌝ }
 {
-    let mut p = header;
-    copying::copy_at(&mut p, at, payload);
-    p
+    let four = in_four(n);
+    copying::copy_at(buffer, at, &four);
 }
 
-// Packet k of a message of n bytes that stands at the front of a buffer.
-pub fn packet_of(c: Channel, command: u8, n: usize, k: usize, buffer: &[u8]) -> [u8; 64]
-    requires { ⌜ (command < 128) × (n ≤ longest) × (n ≤ length (now buffer)) × (k < packets n) ⌝ }
-    ensures { λ r. ⌜ r ≡ packetOf c command n k (now (buffer .entry)) ⌝ }
+// The header of an opening packet.
+fn opening_header(packet: &mut [u8], c: Channel, command: u8, n: usize)
+    requires { ⌜ (command < 128) × (packetSize ≤ length (now packet)) ⌝ }
+    ensures { λ _. ⌜ now (packet .exit) ≡ onto (bytes4 (c .0) ++ (128 + command) ∷ bytes2 n) (now (packet .entry)) ⌝ }
+{
+    later_header(packet, c, 128 + command);
+    packet[5] = (n / 256 % 256) as u8;
+    packet[6] = (n % 256) as u8;
+}
+
+// The channel and byte 4.
+fn later_header(packet: &mut [u8], c: Channel, byte4: u8)
+    requires { ⌜ packetSize ≤ length (now packet) ⌝ }
+    ensures { λ _. ⌜ now (packet .exit) ≡ onto (bytes4 (c .0) ++ byte4 ∷ []) (now (packet .entry)) ⌝ }
+{
+    number_at(packet, 0, c.0 as usize);
+    packet[4] = byte4;
+}
+
+// The payload behind a header of `at` bytes, and zeros in unused bytes.
+fn fill(packet: &mut [u8], at: usize, payload: &[u8])
+    requires { ⌜ (at + length (now payload) ≤ packetSize) × (packetSize ≤ length (now packet)) ⌝ }
+    ensures { λ _. ⌜ now (packet .exit) ≡ overwrite at (now (payload .entry) ++ replicate (packetSize - (at + length (now (payload .entry)))) 0) (now (packet .entry)) ⌝ }
+{
+    copying::copy_at(packet, at, payload);
+    copying::clear(&mut packet[at + payload.len()..SIZE]);
+}
+
+// Packet k of a message of n bytes that stands at the front of a buffer, into the reply buffer's first 64 bytes.
+pub fn send(reply: &mut [u8], c: Channel, command: u8, n: usize, k: usize, buffer: &[u8])
+    requires { ⌜ (packetSize ≤ length (now reply)) × (command < 128) × (n ≤ longest) × (n ≤ length (now buffer)) × (k < packets n) ⌝ }
+    ensures { λ _. ⌜ now (reply .exit) ≡ onto (packetOf c command n k (now (buffer .entry))) (now (reply .entry)) ⌝ }
 {
     let at = cutting::begins_at(FIRST, LATER, k);
     let end = at + cutting::carried(FIRST, LATER, n, k);
     let payload = &buffer[at..end];
     if k == 0 {
-        return with_payload(opening_header(c, command, n), 7, payload);
+        opening_header(reply, c, command, n);
+        fill(reply, 7, payload);
+        return;
     }
-    with_payload(later_header(c, ((k - 1) % 256) as u8), 5, payload)
+    later_header(reply, c, ((k - 1) % 256) as u8);
+    fill(reply, 5, payload);
 }
 
 // Error: command 0x3F, length 1, the code.
-pub fn error_on(c: Channel, code: u8) -> [u8; 64]
-    ensures { λ r. ⌜ r ≡ errorOn c code ⌝ }
+pub fn send_error(reply: &mut [u8], c: Channel, code: u8)
+    requires { ⌜ packetSize ≤ length (now reply) ⌝ }
+    ensures { λ _. ⌜ now (reply .exit) ≡ onto (errorOn c code) (now (reply .entry)) ⌝ }
 {
     let content = [code];
-    packet_of(c, ERROR, 1, 0, &content)
+    send(reply, c, ERROR, 1, 0, &content);
 }
 
 // INIT reply on the packet's channel: its 8 nonce bytes, the channel, then protocol 2, device 1.0.0, flags 04: CBOR and MSG.
-pub fn init_reply(packet: &[u8], given: Channel) -> [u8; 64]
-    requires { ⌜ packetSize ≤ length (now packet) ⌝ }
-    ensures { λ r. ⌜ r ≡ initReply (now (packet .entry)) given ⌝ }
+pub fn send_init(reply: &mut [u8], packet: &[u8], given: Channel)
+    requires { ⌜ (packetSize ≤ length (now reply)) × (packetSize ≤ length (now packet)) ⌝ }
+    ensures { λ _. ⌜ now (reply .exit) ≡ onto (initReply (now (packet .entry)) given) (now (reply .entry)) ⌝ }
 {
-    let n = given.0;
     let mut content = [0u8; 17];
-    content[8] = (n / 256 / 256 / 256 % 256) as u8;
-    content[9] = (n / 256 / 256 % 256) as u8;
-    content[10] = (n / 256 % 256) as u8;
-    content[11] = (n % 256) as u8;
     content[12] = 0x02;
     content[13] = 0x01;
     content[16] = 0x04;
+    number_at(&mut content, 8, given.0 as usize);
     copying::copy_at(&mut content, 0, &packet[7..15]);
-    packet_of(channel_of(packet), INIT, 17, 0, &content)
-}
-
-// A packet into the reply buffer's first 64 bytes.
-pub fn send(reply: &mut [u8], packet: [u8; 64])
-    requires { ⌜ packetSize ≤ length (now reply) ⌝ }
-    ensures { λ _. ⌜ now (reply .exit) ≡ onto packet (now (reply .entry)) ⌝ }
-{
-    copying::copy_front(reply, &packet);
+    send(reply, channel_of(packet), INIT, 17, 0, &content);
 }

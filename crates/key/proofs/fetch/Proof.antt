@@ -19,27 +19,26 @@ returns-2 : tie.Need-returns-2
 unfolding step lent rows fetchRows _⇒_else_
 returns-2 c = simp (c .refused2 .ensures, lt-ltb _ _ (c .before .if3 .taken), le-ltb _ _ (c .before .before .if2 .left), c .before .before .before .if1 .taken, sym (c .before .before .before .before .in-order .ensures))
 
-packet-of-requires : tie.Need-packet-of-requires
-packet-of-requires c κs =
+send-requires : tie.Need-send-requires
+send-requires c κs =
     let g = answering-parts (c .before .before .before .before .before .before .before .before .before .before .before .args .s) _ _ _ _ (sym (c .before .before .before .before .before .before .before .before .in-order .ensures) ∙ c .before .before .before .before .before .before .before .if1 .taken) (c .before .before .f .given .1) in
-    (starts-small _ (g .opens), g .size, omega (arith, g .size), g .more)
+    (search needs, starts-small _ (g .opens), g .size, omega (arith, g .size), g .more)
 
 advance-requires : tie.Need-advance-requires
 advance-requires c κs =
-    let g = answering-parts (c .before .before .before .before .before .before .before .before .before .before .before .before .before .before .before .args .s) _ _ _ _ (sym (c .before .before .before .before .before .before .before .before .before .before .before .before .in-order .ensures) ∙ c .before .before .before .before .before .before .before .before .before .before .before .if1 .taken) (c .before .before .before .before .before .before .f .given .1) in
+    let g = answering-parts (c .before .before .before .before .before .before .before .before .before .before .before .before .before .before .args .s) _ _ _ _ (sym (c .before .before .before .before .before .before .before .before .before .before .before .in-order .ensures) ∙ c .before .before .before .before .before .before .before .before .before .before .if1 .taken) (c .before .before .before .before .before .f .given .1) in
     (g .size, g .more)
 
 returns-3 : tie.Need-returns-3
 unfolding fetchRows
 returns-3 c =
-    let a = c .before .before .before .before .before .before .before .before .before .before .before .before .before .before .before .before .before .before .args in
+    let a = c .before .before .before .before .before .before .before .before .before .before .before .before .before .before .before .before .before .args in
     simp (
-      fetch-row (a .s) (now (a .message)) _ (sym (c .before .before .before .before .before .before .before .before .before .before .before .before .before .before .before .in-order .ensures) ∙ c .before .before .before .before .before .before .before .before .before .before .before .before .before .before .if1 .taken) (c .before .before .before .before .before .before .before .before .before .f .given .1) _ (c .before .before .before .before .before .before .before .before .before .before .before .before .before .if2 .left) (c .before .before .before .before .before .before .before .before .before .before .before .before .if3 .left),
+      fetch-row (a .s) (now (a .message)) _ (sym (c .before .before .before .before .before .before .before .before .before .before .before .before .before .before .in-order .ensures) ∙ c .before .before .before .before .before .before .before .before .before .before .before .before .before .if1 .taken) (c .before .before .before .before .before .before .before .before .f .given .1) _ (c .before .before .before .before .before .before .before .before .before .before .before .before .if2 .left) (c .before .before .before .before .before .before .before .before .before .before .before .if3 .left),
       c .replied .ensures,
       c .before .in-phase .ensures,
       c .before .before .advance .ensures,
       c .before .before .before .before .before .send .ensures,
-      c .before .before .before .before .before .before .packet-of .ensures,
     )
 
 returns-4 : tie.Need-returns-4
@@ -74,8 +73,7 @@ fetch-spec =
     (λ c κs. search needs)
     returns-2
     (λ c. search needs)
-    packet-of-requires
-    (λ c κs. search needs)
+    send-requires
     advance-requires
     (λ c κs. search needs)
     (λ c κs. search needs)

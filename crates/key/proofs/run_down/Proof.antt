@@ -8,7 +8,7 @@ use Rattle.key.proofs.run_down.Tie as tie
 
 returns : tie.Need-returns
 unfolding timeRows _⇒_else_
-returns c m = simp (c .replied .ensures, c .before .in-phase .ensures, c .before .before .before .before .send .ensures, c .before .before .before .before .before .error-on .ensures, le-leb _ _ (c .before .before .before .before .before .before .before .if1 .taken))
+returns c m = simp (c .replied .ensures, c .before .in-phase .ensures, c .before .before .before .before .send-error .ensures, le-leb _ _ (c .before .before .before .before .before .before .if1 .taken))
 
 returns-2 : tie.Need-returns-2
 unfolding timeRows _⇒_else_
@@ -18,7 +18,6 @@ pub run-down-spec : {M : Type 1} → statement M
 run-down-spec =
     tie.close
     (tie.spec
-    (λ c κs. search needs)
     (λ c κs. search needs)
     (λ c κs. search needs)
     (λ c κs. search needs)

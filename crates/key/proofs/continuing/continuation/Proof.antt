@@ -32,9 +32,9 @@ returns c =
 
 returns-2 : tie.Need-returns-2
 returns-2 c =
-    let a = c .before .before .before .before .before .before .before .before .before .before .before .before .before .before .before .before .before .before .before .args in
-    let t = continuing-wrong (a .s .work) (now (a .message)) (now (a .bytes)) (c .before .before .before .before .before .before .before .before .before .before .before .before .f .given .1) (c .before .before .before .before .before .before .before .before .before .before .before .before .before .before .before .channel-of .ensures) (sym (c .before .before .before .before .before .before .before .before .before .before .same-channel .ensures) ∙ c .before .before .before .before .before .before .before .before .before .if1 .taken) (λ e. c .before .before .before .before .before .before .before .if2 .left (rw (c .before .before .before .before .before .before .before .before .number-of .ensures .0) e)) in
-    rw t (simp (c .replied .ensures, c .before .in-phase .ensures, c .before .before .before .before .send .ensures, c .before .before .before .before .before .error-on .ensures))
+    let a = c .before .before .before .before .before .before .before .before .before .before .before .before .before .before .before .before .before .before .args in
+    let t = continuing-wrong (a .s .work) (now (a .message)) (now (a .bytes)) (c .before .before .before .before .before .before .before .before .before .before .before .f .given .1) (c .before .before .before .before .before .before .before .before .before .before .before .before .before .before .channel-of .ensures) (sym (c .before .before .before .before .before .before .before .before .before .same-channel .ensures) ∙ c .before .before .before .before .before .before .before .before .if1 .taken) (λ e. c .before .before .before .before .before .before .if2 .left (rw (c .before .before .before .before .before .before .before .number-of .ensures .0) e)) in
+    rw t (simp (c .replied .ensures, c .before .in-phase .ensures, c .before .before .before .before .send-error .ensures))
 
 returns-3 : tie.Need-returns-3
 returns-3 c =
@@ -69,7 +69,6 @@ continuation-spec =
     take-payload-requires
     (λ c. search needs)
     returns
-    (λ c κs. search needs)
     (λ c κs. search needs)
     (λ c κs. search needs)
     (λ c κs. search needs)

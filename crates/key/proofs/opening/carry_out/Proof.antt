@@ -18,19 +18,19 @@ returns c = simp (c .quiet .ensures, c .before .enum-told .given .1)
 
 returns-2 : tie.Need-returns-2
 unfolding carriedOut
-returns-2 c = simp (c .replied .ensures, c .before .before .before .send .ensures, c .before .before .before .before .error-on .ensures, c .before .before .before .before .before .before .before .v .given .1, sym (c .before .before .before .before .before .before .before .before .before .channel-of .ensures))
+returns-2 c = simp (c .replied .ensures, c .before .before .before .send-error .ensures, c .before .before .before .before .before .before .v .given .1, sym (c .before .before .before .before .before .before .before .before .channel-of .ensures))
 
 returns-3 : tie.Need-returns-3
 unfolding carriedOut
-returns-3 c = simp (c .replied2 .ensures, c .before .in-phase .ensures, c .before .before .before .before .send2 .ensures, c .before .before .before .before .before .error-on2 .ensures, c .before .before .before .before .before .before .before .before .v2 .given .1, sym (c .before .before .before .before .before .before .before .before .before .before .channel-of .ensures))
+returns-3 c = simp (c .replied2 .ensures, c .before .in-phase .ensures, c .before .before .before .before .send-error2 .ensures, c .before .before .before .before .before .before .before .v2 .given .1, sym (c .before .before .before .before .before .before .before .before .before .channel-of .ensures))
 
 returns-4 : tie.Need-returns-4
 unfolding carriedOut
-returns-4 c = simp (c .replied3 .ensures, c .before .one-more .ensures, c .before .before .before .before .send3 .ensures, c .before .before .before .before .before .init-reply .ensures, c .before .before .before .before .before .before .before .before .enum-told2 .given .1)
+returns-4 c = simp (c .replied3 .ensures, c .before .one-more .ensures, c .before .before .before .before .send-init .ensures, c .before .before .before .before .before .before .before .enum-told2 .given .1)
 
 returns-5 : tie.Need-returns-5
 unfolding carriedOut
-returns-5 c = simp (c .replied4 .ensures, c .before .in-phase2 .ensures, c .before .before .before .before .send4 .ensures, c .before .before .before .before .before .init-reply2 .ensures, c .before .before .before .before .before .before .before .enum-told3 .given .1, sym (c .before .before .before .before .before .before .before .before .before .channel-of .ensures))
+returns-5 c = simp (c .replied4 .ensures, c .before .in-phase2 .ensures, c .before .before .before .before .send-init2 .ensures, c .before .before .before .before .before .before .enum-told3 .given .1, sym (c .before .before .before .before .before .before .before .before .channel-of .ensures))
 
 returns-6 : tie.Need-returns-6
 unfolding carriedOut
@@ -52,9 +52,7 @@ carry-out-spec =
     (λ c. search needs)
     (λ c κs. search needs)
     (λ c κs. search needs)
-    (λ c κs. search needs)
     (λ c. search needs)
-    (λ c κs. search needs)
     (λ c κs. search needs)
     (λ c κs. search needs)
     (λ c κs. search needs)
@@ -63,9 +61,7 @@ carry-out-spec =
     (λ c κs. search needs)
     (λ c κs. search needs)
     (λ c κs. search needs)
-    (λ c κs. search needs)
     (λ c. search needs)
-    (λ c κs. search needs)
     (λ c κs. search needs)
     (λ c κs. search needs)
     (λ c κs. search needs)

@@ -1,12 +1,26 @@
--- `opening_header` meets its contract: two more stores over the shorter header.
+-- `opening_header` meets its contract: two bytes more behind the channel and byte 4.
+use Prim.Native.Nat.{_+_, _/_, _%_}
+use mathlib.Core.List.{[], _∷_, _++_}
+use native.Mathlib.Omega.{arith}
+use lib.ListN.{length-set}
+use denote.Ref.{now}
 use borrow.Author.Needs.{needs}
-use Rattle.wire.specs.Packet.{filled, bytes4, bytes2}
+use Rattle.wire.specs.Packet.{bytes4, bytes2}
+use Rattle.wire.proofs.Copies.{next-byte}
 use Rattle.wire.proofs.packet.opening_header.Statement.{statement}
 use Rattle.wire.proofs.packet.opening_header.Tie as tie
 
+slice-write-packet-2 : tie.Need-slice-write-packet-2
+slice-write-packet-2 c = simp length-set (omega arith)
+
 returns : tie.Need-returns
-unfolding filled bytes4 bytes2
-returns c = simp (c .later-header .ensures)
+unfolding bytes4 bytes2
+returns c =
+    let a = c .before .before .before .before .before .args in
+    let head = bytes4 (a .c .0) ++ (128 + a .command) ∷ [] in
+    let high = a .n / 256 % 256 in
+    rw (c .before .before .later-header .ensures, next-byte head (now (a .packet)) high (omega arith))
+    (next-byte (head ++ high ∷ []) (now (a .packet)) (a .n % 256) (omega arith))
 
 pub opening-header-spec : {M : Type 1} → statement M
 opening-header-spec =
@@ -17,5 +31,6 @@ opening-header-spec =
     (λ c. search needs)
     (λ c. search needs)
     (λ c. search needs)
+    slice-write-packet-2
     (λ c. search needs)
     returns)

@@ -1,9 +1,9 @@
 -- `in_four` meets its contract: the array after the stores computes to the definition.
 use mathlib.Core.Path.{refl}
 use Rattle.wire.specs.Packet.{bytes4}
 use borrow.Author.Needs.{needs}
-use Rattle.block.proofs.in_four.Statement.{statement}
-use Rattle.block.proofs.in_four.Tie as tie
+use Rattle.wire.proofs.packet.in_four.Statement.{statement}
+use Rattle.wire.proofs.packet.in_four.Tie as tie
 
 returns : tie.Need-returns
 unfolding bytes4

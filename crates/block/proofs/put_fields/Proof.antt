@@ -1,0 +1,40 @@
+-- `put_fields` meets its contract: each number stands behind the one before it, from the front on.
+use mathlib.Core.List.{[], _∷_, _++_}
+use denote.Ref.{now}
+use borrow.Author.Needs.{needs}
+use Rattle.wire.specs.Packet.{bytes4}
+use Rattle.wire.proofs.Copies.{onto-more}
+use Rattle.block.specs.Block.{mark0, mark1, bytesOf}
+use Rattle.block.proofs.put_fields.Statement.{statement}
+use Rattle.block.proofs.put_fields.Tie as tie
+
+returns : tie.Need-returns
+unfolding bytesOf bytes4
+returns c =
+    let a = c .before .before .before .before .before .before .before .before .before .before .before .before .before .before .before .before .before .before .before .args in
+    let b = now (a .b) in
+    let f = a .f in
+    let one = mark0 ∷ mark1 ∷ f .phase ∷ f .command ∷ [] in
+    let two = one ++ bytes4 (f .given) in
+    rw (
+      c .before .before .put-message .ensures,
+      c .before .before .before .before .before .before .number-at2 .ensures,
+      c .before .before .before .before .before .before .before .before .before .before .before .number-at .ensures,
+      c .before .before .before .before .before .before .before .before .before .before .before .before .before .before .before .before .put-mark .ensures,
+      onto-more one (bytes4 (f .given)) b,
+      onto-more two (bytes4 (f .ticket)) b,
+    )
+    (onto-more (two ++ bytes4 (f .ticket)) _ b)
+
+pub put-fields-spec : {M : Type 1} → statement M
+put-fields-spec =
+    tie.close
+    (tie.spec
+    (λ c κs. search needs)
+    (λ c. search needs)
+    (λ c κs. search needs)
+    (λ c. search needs)
+    (λ c κs. search needs)
+    (λ c κs. search needs)
+    (λ c. search needs)
+    returns)
