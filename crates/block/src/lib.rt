@@ -1,5 +1,4 @@
 // The block: a state in 32 bytes (docs/BLOCK.md).
-use cbor::bytes;
 use state::Phase;
 use state::State;
 use state::Ticket;
@@ -155,7 +154,7 @@ fn number(b: &[u8], at: usize) -> u32
     requires { ⌜ at + 4 ≤ length (now b) ⌝ }
     ensures { λ r. ⌜ r ≡ u32At (now (b .entry)) at ⌝ }
 {
-    bytes::u32_at(b, at) as u32
+    packet::number_in(b, at)
 }
 
 // The numbers, each from its place.

@@ -91,7 +91,7 @@ fn pass(
 }
 
 // The message stands complete in the buffer: PING is answering with its own bytes, MSG is read as an APDU, CBOR is checked.
-fn complete(s: State, holder: Channel, command: u8, size: usize, message: &mut [u8]) -> Outcome
+pub fn complete(s: State, holder: Channel, command: u8, size: usize, message: &mut [u8]) -> Outcome
     requires { ⌜ (size ≤ longest) × (longest ≤ length (now message)) ⌝ }
     ensures { λ r. ⌜ effect r [] (now (message .exit)) ≡ asked [] (beside (s .given) (completed (s .work) holder command size (now (message .entry)))) ⌝ }
 {
@@ -106,7 +106,7 @@ fn complete(s: State, holder: Channel, command: u8, size: usize, message: &mut [
     judge(s, holder, command, size, found, message)
 }
 
-// Packet k's payload is copied; then more is to come, or the message is complete.
+// A continuation's payload, that of packet k, is copied; then more is to come, or the message is complete.
 pub fn take_payload(
     s: State,
     holder: Channel,

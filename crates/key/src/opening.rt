@@ -7,6 +7,7 @@ use state::order;
 use state::outcomes;
 use table::Verdict;
 use wire::Channel;
+use wire::cutting;
 use wire::packet;
 ghost use mathlib.Core.Path.{_≡_};
 ghost use mathlib.Core.Bool.{true};
@@ -33,7 +34,7 @@ fn one_more(s: State) -> State
     }
 }
 
-// The opening packet's payload is taken.
+// The opening packet's payload is taken: a message that it holds is complete, and of a longer one more is to come.
 fn open_message(s: State, bytes: &[u8], message: &mut [u8]) -> Outcome
     requires { ⌜ (lengthOf (now bytes) ≤ longest) × (length (now bytes) ≡ packetSize) × (longest ≤ length (now message)) ⌝ }
     ensures { λ r. ⌜ effect r [] (now (message .exit)) ≡ asked [] (carriedOut Verdict.Opened s (now (message .entry)) (now (bytes .entry))) ⌝ }
@@ -41,16 +42,18 @@ fn open_message(s: State, bytes: &[u8], message: &mut [u8]) -> Outcome
     let c = packet::channel_of(bytes);
     let command = packet::command_of(bytes);
     let size = packet::length_of(bytes);
-    gathering::take_payload(
-        s,
-        c,
+    cutting::put_payload(packet::FIRST, packet::LATER, size, 0, &bytes[7..], message);
+    if size <= packet::FIRST {
+        return gathering::complete(s, c, command, size, message);
+    }
+    let phase = Phase::Gathering {
+        holder: c,
         command,
         size,
-        0,
-        order::GATHERING_TIME,
-        &bytes[7..],
-        message,
-    )
+        done: 1,
+        left: order::GATHERING_TIME,
+    };
+    outcomes::quiet(outcomes::in_phase(s, phase))
 }
 
 // What the verdict does.

@@ -28,6 +28,15 @@ pub at-least-1 : (n : ℕ) → 0 < packets n
 unfolding packets packetsNeeded
 at-least-1 n = omega arith
 
+-- a message that the first packet holds needs no other, and a longer one does
+pub one-packet : (n : ℕ) → n ≤ 57 → packets n ≤ 1
+unfolding packets packetsNeeded
+one-packet n h = omega arith
+
+pub more-packets : (n : ℕ) → 57 < n → 1 < packets n
+unfolding packets packetsNeeded
+more-packets n h = omega arith
+
 -- what a packet carries fits its payload
 pub first-fits : (n k : ℕ) → k ≡ 0 → carries 57 59 n k ≤ 57
 unfolding carries room

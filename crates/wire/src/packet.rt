@@ -5,7 +5,7 @@ use crate::cutting;
 ghost use mathlib.Core.Path.{_≡_};
 ghost use Prim.Native.Nat.{_+_, _-_, _≤_, _<_};
 ghost use mathlib.Core.List.{[], _∷_, _++_};
-ghost use lib.ListN.{length, replicate};
+ghost use lib.ListN.{length, take, drop, replicate};
 ghost use Rattle.wire.specs.Copying.{onto, overwrite};
 ghost use Rattle.wire.specs.Packet.{packetSize, longest, packets, bytes4, bytes2, channelOf, commandOf, lengthOf, numberOf, packetOf, errorOn, initReply};
 
@@ -44,13 +44,32 @@ fn size(b: u8) -> usize
     b as usize
 }
 
+// The four bytes from `at` on. They are held, so that the compiler loads them as one number and not byte by byte.
+fn four_at(bytes: &[u8], at: usize) -> [u8; 4]
+    requires { ⌜ at + 4 ≤ length (now bytes) ⌝ }
+    ensures { λ r. ⌜ r ≡ take 4 (drop at (now (bytes .entry))) ⌝ }
+{
+    let mut four = [0u8; 4];
+    copying::copy_front(&mut four, &bytes[at..at + 4]);
+    four
+}
+
+// The number in the four bytes from `at` on, read as a channel's is.
+pub fn number_in(bytes: &[u8], at: usize) -> u32
+    requires { ⌜ at + 4 ≤ length (now bytes) ⌝ }
+    ensures { λ r. ⌜ r ≡ channelOf (drop at (now (bytes .entry))) .0 ⌝ }
+{
+    let four = four_at(bytes, at);
+    let high = wide(four[0]) * 256 + wide(four[1]);
+    (high * 256 + wide(four[2])) * 256 + wide(four[3])
+}
+
 // Bytes 0 to 3: the channel, big-endian.
 pub fn channel_of(packet: &[u8]) -> Channel
     requires { ⌜ packetSize ≤ length (now packet) ⌝ }
     ensures { λ r. ⌜ r ≡ channelOf (now (packet .entry)) ⌝ }
 {
-    let high = wide(packet[0]) * 256 + wide(packet[1]);
-    Channel((high * 256 + wide(packet[2])) * 256 + wide(packet[3]))
+    Channel(number_in(packet, 0))
 }
 
 // Byte 4 of an opening packet, minus 128: the command.
