@@ -5,6 +5,7 @@ use mathlib.Core.Path.{_≡_, refl, sym, ap, subst, _∙_}
 use mathlib.Core.List.{List, []}
 use mathlib.Core.Bool.{Bool, true, false}
 use native.Mathlib.Omega.{arith}
+use native.Mathlib.Nat.{sub-self}
 use lib.ListN.{length, drop}
 use lib.Seq.{drop-drop}
 use lib.Dec.{leb}
@@ -139,35 +140,53 @@ module _ (f : List ℕ → Item) (s : List ℕ) (end : ℕ) where
   pub entries-fit : Bounded f → (n : ℕ) (prev : List ℕ) (at : ℕ) → at ≤ length s → entriesOf f n s prev at ≡ Len end → (at ≤ end) × (end ≤ length s)
   entries-fit t n prev at h e = subst (λ (x : Item). Within at (length s) x) e (entries-within f t n s prev at h)
 
--- What was read in the part that begins at a, said of the whole.
-module _ (f : List ℕ → Item) (s : List ℕ) (a : ℕ) where
-  pub read-shift : (at n : ℕ) → readAt f (drop a s) at ≡ Len n → readAt f s (a + at) ≡ Len (a + n)
-  unfolding readAt countedFrom
-  read-shift at n e = go (f (drop (a + at) s)) (rw (drop-drop at a s) at e)
-    where
-      go : (x : Item) → countedFrom at x ≡ Len n → countedFrom (a + at) x ≡ Len (a + n)
-      go (Len k) g = ap Len (omega (arith, len-len g))
-      go (Fault p) g = fault-len g
+-- What was read in the part that begins at a, a fault too, said of the whole.
+counted-twice : (a b : ℕ) (x : Item) → countedFrom a (countedFrom b x) ≡ countedFrom (a + b) x
+unfolding countedFrom
+counted-twice a b (Len k) = ap Len (omega arith)
+counted-twice a b (Fault p) = ap Fault (omega arith)
 
-pub part-shift : (s : List ℕ) (a at mid : ℕ) → part (drop a s) at mid ≡ part s (a + at) (a + mid)
+counted-if : (a : ℕ) (t : Bool) (k p : ℕ) → countedFrom a (if t then Len k else Fault p) ≡ (if t then Len (a + k) else Fault (a + p))
+unfolding countedFrom
+counted-if a true k p = refl
+counted-if a false k p = refl
+
+counted-then : (a : ℕ) (x y : Item) (g h : ℕ → Item) → countedFrom a x ≡ y → ((k : ℕ) → countedFrom a (g k) ≡ h (a + k))
+    → countedFrom a (andThen x g) ≡ andThen y h
+unfolding countedFrom andThen
+counted-then a (Len k) y g h e w = w k ∙ ap (λ (z : Item). andThen z h) e
+counted-then a (Fault p) y g h e w = ap (λ (z : Item). andThen z h) e
+
+read-from : (f : List ℕ → Item) (s : List ℕ) (a at : ℕ) → countedFrom a (readAt f (drop a s) at) ≡ readAt f s (a + at)
+unfolding readAt
+read-from f s a at = counted-twice a at (f (drop at (drop a s))) ∙ ap (λ (l : List ℕ). countedFrom (a + at) (f l)) (drop-drop at a s)
+
+part-shift : (s : List ℕ) (a at mid : ℕ) → part (drop a s) at mid ≡ part s (a + at) (a + mid)
 part-shift s a at mid =
     let e : mid - at ≡ a + mid - (a + at) = omega arith in
     rw (drop-drop at a s, e)
 
-module _ (f : List ℕ → Item) (s : List ℕ) (a end : ℕ) where
-  pub items-shift : (n at : ℕ) → elementsOf f n (drop a s) at ≡ Len end → elementsOf f n s (a + at) ≡ Len (a + end)
-  unfolding elementsOf andThen
-  items-shift zero at e = ap (λ (k : ℕ). Len (a + k)) (len-len e)
-  items-shift (suc n) at e =
-      let w = next-item f (drop a s) end n at e in
-      rw (read-shift f s a at (w .next) (w .item)) (items-shift n (w .next) (w .run))
+key-from : (s prev : List ℕ) (a at : ℕ) → countedFrom a (nextKeyOf (drop a s) prev at) ≡ nextKeyOf s prev (a + at)
+unfolding nextKeyOf
+key-from s prev a at =
+    counted-then a (readAt keyOf (drop a s) at) (readAt keyOf s (a + at)) _ _ (read-from keyOf s a at)
+    (λ end. rw (part-shift s a at end) (counted-if a (keyBefore prev (part s (a + at) (a + end))) end at))
 
-  pub entries-shift : (n : ℕ) (prev : List ℕ) (at : ℕ) → entriesOf f n (drop a s) prev at ≡ Len end → entriesOf f n s prev (a + at) ≡ Len (a + end)
-  unfolding entriesOf nextKeyOf andThen
-  entries-shift zero prev at e = ap (λ (k : ℕ). Len (a + k)) (len-len e)
-  entries-shift (suc n) prev at e =
-      let w = next-entry f (drop a s) end n prev at e in
-      let p = sym (part-shift s a at (w .mid)) in
-      let o = ap (keyBefore prev) p ∙ w .order in
-      let r = ap (λ (k : List ℕ). entriesOf f n s k (a + w .next)) p ∙ entries-shift n (part (drop a s) at (w .mid)) (w .next) (w .run) in
-      rw (read-shift keyOf s a at (w .mid) (w .key), o, read-shift f s a (w .mid) (w .next) (w .value)) r
+module _ (f : List ℕ → Item) (s : List ℕ) (a : ℕ) where
+  pub elements-from : (n at : ℕ) → countedFrom a (elementsOf f n (drop a s) at) ≡ elementsOf f n s (a + at)
+  unfolding elementsOf
+  elements-from zero at = counted-if a true at 0
+  elements-from (suc n) at =
+      counted-then a (readAt f (drop a s) at) (readAt f s (a + at)) _ _ (read-from f s a at) (λ next. elements-from n next)
+
+  pub entries-from : (n : ℕ) (prev : List ℕ) (at : ℕ) → countedFrom a (entriesOf f n (drop a s) prev at) ≡ entriesOf f n s prev (a + at)
+  unfolding entriesOf
+  entries-from zero prev at = counted-if a true at 0
+  entries-from (suc n) prev at =
+      counted-then a (nextKeyOf (drop a s) prev at) (nextKeyOf s prev (a + at)) _ _ (key-from s prev a at)
+      (λ value. counted-then a (readAt f (drop a s) value) (readAt f s (a + value)) _ _ (read-from f s a value)
+      (λ next. entries-from n (part (drop a s) at value) next ∙ ap (λ (p : List ℕ). entriesOf f n s p (a + next)) (part-shift s a at value)))
+
+-- Before the first entry there is no key.
+pub no-part : (s : List ℕ) (at : ℕ) → part s at at ≡ []
+no-part s at = rw (sub-self at)

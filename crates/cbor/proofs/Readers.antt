@@ -2,10 +2,10 @@
 -- turn of the elements and of the entries.
 use Prim.Native.Nat.{ℕ, zero, suc, _+_, _-_, _≤_, _<_}
 use mathlib.Core.Path.{_≡_, refl, sym, ap, _∙_}
-use mathlib.Core.List.{List, []}
+use mathlib.Core.List.{List}
 use mathlib.Core.Bool.{Bool, true, false}
 use native.Mathlib.Omega.{arith}
-use native.Mathlib.Nat.{sub-self, pos-of-ne-zero}
+use native.Mathlib.Nat.{pos-of-ne-zero}
 use native.Mathlib.Numerals.{sub-one}
 use lib.ListN.{length, getD}
 use lib.Dec.{leb}
@@ -200,7 +200,3 @@ module _ (f : List ℕ → Item) (s prev : List ℕ) (at : ℕ) {m : ℕ} (e : m
     entries-stop-value t h b zero p g = absurd (omega arith)
     entries-stop-value t h b (suc n) p g =
         decides (m + 1) (length s) (readAt f s m) _ (read-within f t s m h) b v g ∙ sym (ap asNumber (goes-on (nextKeyOf s prev at) _ e k))
-
--- Before the first entry there is no key.
-pub no-part : (s : List ℕ) (at : ℕ) → part s at at ≡ []
-no-part s at = rw (sub-self at)

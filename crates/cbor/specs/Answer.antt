@@ -1,4 +1,4 @@
--- What the crate's own functions ask of each other, and how they answer. No rule and no public call rests on it.
+-- What the functions of the readers ask of each other, and how they answer. No rule rests on it.
 use Prim.Native.Nat.{ℕ, _+_, _-_}
 use mathlib.Core.Path.{_≡_}
 use mathlib.Core.Logic.{_⊎_}
@@ -10,6 +10,10 @@ use Rattle.cbor.specs.declared.head.Kind.{Kind}
 use Rattle.cbor.specs.declared.head.Kind.the-variants.{Unsigned, Negative, Bytes, Text, Array, Map, Simple}
 use Rattle.cbor.specs.declared.head.First.{First}
 use Rattle.cbor.specs.declared.head.First.the-variants.{Argument, Form, Refused}
+use Rattle.cbor.specs.declared.head.Head.{Head}
+use Rattle.cbor.specs.declared.head.Head.the-variants.{Of, Bad}
+use Rattle.cbor.specs.declared.Front.{Front}
+use Rattle.cbor.specs.declared.Front.the-variants.{Holds, NoHead}
 use Rattle.cbor.specs.declared.Item.{Item}
 use Rattle.cbor.specs.declared.Item.the-variants.{Len, Fault}
 
@@ -40,6 +44,11 @@ abbrev pub shortLengthOf : First → ℕ
 shortLengthOf (Argument k i) = shortLengthBy k i
 shortLengthOf (Form k f) = 0
 shortLengthOf Refused = 0
+
+-- How many a head says that there are, and where the first begins.
+unfoldable pub frontOf : Head → Front
+frontOf (Of k v l) = Holds v l
+frontOf Bad = NoHead
 
 -- The key before, and before the first no bytes.
 abbrev pub KeyOrNone : List ℕ → Type 0

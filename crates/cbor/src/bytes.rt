@@ -24,7 +24,7 @@ pub(crate) fn u16_at(s: &[u8], i: usize) -> u64
     join(wide(s[i]), s[i + 1])
 }
 
-pub fn u32_at(s: &[u8], i: usize) -> u64
+pub(crate) fn u32_at(s: &[u8], i: usize) -> u64
     requires { ⌜ i + 4 ≤ length (now s) ⌝ }
     ensures { λ r. ⌜ (r ≡ u32At (now (s .entry)) i) × (r < 0x1_0000_0000) ⌝ }
 {

@@ -1,5 +1,5 @@
 // The head of an item: the first byte decides the kind, and the argument stands in it or in the bytes after it, in the shortest form only.
-// `read_head` and what it calls have one caller each: so they are compiled into that caller, and their enums cost nothing.
+// What `read_head` calls has one caller each: so it is compiled into that caller, and its enums cost nothing.
 ghost use mathlib.Core.Path.{_≡_};
 ghost use Prim.Native.Nat.{_<_};
 ghost use Rattle.cbor.specs.Head.{firstOf, shortestOf, headInForm, headOf};

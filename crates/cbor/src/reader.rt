@@ -15,17 +15,17 @@ use crate::order;
 // No slice has as many bytes.
 pub(crate) const FAULT: usize = 0x8000_0000_0000_0000;
 
-// An item, by its whole head.
+// An item, by its whole head. What is handed on to a call is a slice of its own, `&msg[0..]`: `msg` itself can then stay in registers.
 pub(crate) fn extent_by_head(msg: &[u8], levels: u8) -> usize
     ensures { λ r. ⌜ r ≡ asNumber (itemOf levels (now (msg .entry))) ⌝ }
 {
-    let head = head::read_head(msg);
+    let head = head::read_head(&msg[0..]);
     match head {
         Head::Of(k, v, l) => match k {
             Kind::Unsigned => l,
             Kind::Negative => l,
             Kind::Bytes => string(msg, v, l),
-            Kind::Text => text(msg, v, l),
+            Kind::Text => text(&msg[0..], v, l),
             Kind::Array => {
                 if levels == 0 {
                     return FAULT;
@@ -148,7 +148,7 @@ fn entries(msg: &[u8], levels: u8, count: u64, start: usize) -> usize
 }
 
 // The key at `at`, which must come after the one that stands from prev up to stop; it ends where its value begins.
-fn next_key(msg: &[u8], prev: usize, stop: usize, at: usize) -> usize
+pub(crate) fn next_key(msg: &[u8], prev: usize, stop: usize, at: usize) -> usize
     requires { ⌜ (prev ≤ stop) × (stop ≤ length (now msg)) × (at ≤ length (now msg)) × KeyOrNone (part (now msg) prev stop) ⌝ }
     ensures { λ r. ⌜ r ≡ asNumber (nextKeyOf (now (msg .entry)) (part (now (msg .entry)) prev stop) at) ⌝ }
 {

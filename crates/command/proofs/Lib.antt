@@ -1,5 +1,6 @@
 mod Runs
 mod Pass
+mod Entries
 mod Arguments
 mod Same
 mod Values

@@ -9,7 +9,7 @@ use lib.ListN.{length, getD, drop}
 use lib.Seq.{getD-drop}
 use Rattle.cbor.specs.Choice.{if_then_else_}
 use Rattle.cbor.specs.Head.{kindOf, headOf}
-use Rattle.cbor.specs.Item.{readAt, part, keyOf, elementsOf, entriesOf, byHead, itemOf}
+use Rattle.cbor.specs.Item.{countedFrom, readAt, part, keyOf, elementsOf, entriesOf, byHead, itemOf}
 use Rattle.cbor.specs.declared.head.Kind.{Kind}
 use Rattle.cbor.specs.declared.head.Kind.the-variants.{Array, Map}
 use Rattle.cbor.specs.declared.head.Head.{Head}
@@ -18,7 +18,7 @@ use Rattle.cbor.specs.declared.Item.{Item}
 use Rattle.cbor.specs.declared.Item.the-variants.{Len}
 use Rattle.cbor.proofs.Heads.{Shape, shape}
 use Rattle.cbor.proofs.Items.{Bounded, read-fits, key-within, item-within}
-use Rattle.cbor.proofs.Inside.{fault-len, read-part, array-inside, map-inside, next-item, items-end, items-fit, next-entry, entries-end, entries-fit, items-shift, entries-shift}
+use Rattle.cbor.proofs.Inside.{fault-len, read-part, array-inside, map-inside, next-item, items-end, items-fit, next-entry, entries-end, entries-fit, elements-from, entries-from}
 use Rattle.command.specs.declared.walk.Found.the-variants.{At, Absent}
 use Rattle.command.specs.Map.{majorAt, array, map, Entry, entry, after, placesAt, entriesAt, counted, arrayAt, mapAt, sameBytes, valueOf}
 use Rattle.command.specs.Pass.{endOf}
@@ -136,7 +136,7 @@ unfolding itemOf byHead
 no-head levels s n e h = fault-len (rw e at h)
 
 pub map-start : (levels : ℕ) (s : List ℕ) (at end place : ℕ) → readAt (itemOf (suc levels)) s at ≡ Len end → majorAt s at ≡ map → ((k : Kind) (v l : ℕ) → headOf (drop at s) ≡ Of k v l → place ≡ at + l) → (P : List Entry → Type 0) → P (mapAt levels s at) → MapLeft (itemOf levels) s end place P
-unfolding mapAt counted
+unfolding mapAt counted countedFrom
 map-start levels s at end place e g p P h = go (headOf (drop at s)) refl h
   where
     w : (at ≤ end) × (itemOf (suc levels) (drop at s) ≡ Len (end - at))
@@ -145,13 +145,13 @@ map-start levels s at end place e g p P h = go (headOf (drop at s)) refl h
     go : (x : Head) → headOf (drop at s) ≡ x → P (counted x (λ n l. entriesAt (itemOf levels) n s (at + l))) → MapLeft (itemOf levels) s end place P
     go (Of k v l) i q =
         let m : headOf (drop at s) ≡ Of Map v l = i ∙ ap (λ (j : Kind). Of j v l) (kind-by s at 5 (omega arith) g i) in
-        let r = entries-shift (itemOf levels) s at (end - at) v [] l (map-inside levels (drop at s) v l (w .1) m) in
+        let r = sym (entries-from (itemOf levels) s at v [] l) ∙ ap (countedFrom at) (map-inside levels (drop at s) v l (w .1) m) in
         let n : at + (end - at) ≡ end = omega (arith, w .0) in
         record { n = v; prev = []; run = rw (p k v l i) (r ∙ ap Len n); holds = rw (p k v l i) q }
     go Bad i q = no-head levels (drop at s) (end - at) i (w .1)
 
 pub array-start : (levels : ℕ) (s : List ℕ) (at end place : ℕ) → readAt (itemOf (suc levels)) s at ≡ Len end → majorAt s at ≡ array → ((k : Kind) (v l : ℕ) → headOf (drop at s) ≡ Of k v l → place ≡ at + l) → (P : List ℕ → Type 0) → P (arrayAt levels s at) → ArrayLeft (itemOf levels) s end place P
-unfolding arrayAt counted
+unfolding arrayAt counted countedFrom
 array-start levels s at end place e g p P h = go (headOf (drop at s)) refl h
   where
     w : (at ≤ end) × (itemOf (suc levels) (drop at s) ≡ Len (end - at))
@@ -160,7 +160,7 @@ array-start levels s at end place e g p P h = go (headOf (drop at s)) refl h
     go : (x : Head) → headOf (drop at s) ≡ x → P (counted x (λ n l. placesAt (itemOf levels) n s (at + l))) → ArrayLeft (itemOf levels) s end place P
     go (Of k v l) i q =
         let m : headOf (drop at s) ≡ Of Array v l = i ∙ ap (λ (j : Kind). Of j v l) (kind-by s at 4 (omega arith) g i) in
-        let r = items-shift (itemOf levels) s at (end - at) v l (array-inside levels (drop at s) v l (w .1) m) in
+        let r = sym (elements-from (itemOf levels) s at v l) ∙ ap (countedFrom at) (array-inside levels (drop at s) v l (w .1) m) in
         let n : at + (end - at) ≡ end = omega (arith, w .0) in
         record { n = v; run = rw (p k v l i) (r ∙ ap Len n); holds = rw (p k v l i) q }
     go Bad i q = no-head levels (drop at s) (end - at) i (w .1)
@@ -172,9 +172,6 @@ module _ (f : List ℕ → Item) (s : List ℕ) (end at mid : ℕ) (P : List Ent
 
   pub map-again : (Q : List Entry → Type 0) → ((es : List Entry) → P (entry (part s at mid) mid ∷ es) → Q es) → MapLeft f s end next Q
   map-again Q h = rw map-next (map-as f s end (w .next) (λ es. P (entry (part s at mid) mid ∷ es)) Q (w .left) h)
-
-  pub map-value : readAt f s mid ≡ Len next
-  map-value = w .value ∙ ap Len (sym map-next)
 
 -- A value that was found was read, and ends within the map.
 pub record ValueRead (f : List ℕ → Item) (s : List ℕ) (end p : ℕ) : Type 0 where

@@ -14,22 +14,34 @@ use crate::walk::Found;
 use crate::walk::MAP;
 use crate::walk::TEXT;
 use crate::walk::UNSIGNED;
+use cbor::Front;
 use cbor::Item;
 ghost use mathlib.Core.Path.{_≡_};
 ghost use mathlib.Core.List.{[], _∷_};
-ghost use Prim.Native.Nat.{_<_};
-ghost use lib.ListN.{length};
-ghost use Rattle.cbor.specs.Item.{readAt, itemOf};
+ghost use Prim.Native.Nat.{_+_, _≤_, _<_};
+ghost use lib.ListN.{length, drop};
+ghost use Rattle.cbor.specs.Head.{headOf};
+ghost use Rattle.cbor.specs.Item.{part, readAt, itemOf};
+ghost use Rattle.cbor.specs.Answer.{KeyOrNone};
+ghost use Rattle.cbor.specs.declared.head.Kind.the-variants.{Map};
+ghost use Rattle.cbor.specs.declared.head.Head.the-variants.{Of};
 ghost use Rattle.cbor.specs.declared.Item.the-variants.{Len};
-ghost use Rattle.command.specs.Map.{majorAt, bytes, mapAt, valueOf};
-ghost use Rattle.command.specs.Parameters.{rowsOf, hashKey, hashValue, contentOf, throughOf};
-ghost use Rattle.command.specs.Check.{noneOurs, keyAbsent, shownOf, unsupportedOf, settledOf, oneMap, parametersOf};
-ghost use Rattle.command.specs.Pass.{OneMap, kindIn, knownOf, requiredEnd, soFar, finishedOf};
+ghost use Rattle.command.specs.declared.Checked.the-variants.{Refused};
+ghost use Rattle.command.specs.Map.{majorAt, bytes, map, mapAt, valueOf};
+ghost use Rattle.command.specs.Parameters.{rowsOf, hashKey, hashValue, contentOf};
+ghost use Rattle.command.specs.Check.{noneOurs, keyAbsent, shownOf, unsupportedOf, oneMap, parametersOf};
+ghost use Rattle.command.specs.Pass.{OneMap, kindIn, knownOf, requiredEnd, soFar, finishedOf, nextOf, endedOf, orFault};
 
 // A command with parameters.
 pub enum Command {
     MakeCredential,
     GetAssertion,
+}
+
+// What is found where an entry of the map is next: where its value begins and ends, or where the first fault in it stands.
+pub enum Next {
+    Whole(usize, usize),
+    Broken(usize),
 }
 
 // No kind: the key is unknown.
@@ -212,36 +224,6 @@ fn finished(msg: &[u8], c: Command, wanted: u8, ours: bool) -> Checked
     shown(msg, c)
 }
 
-// The known keys. Canonical keys rise, so one pass over the entries meets them in their order.
-fn through(msg: &[u8], c: Command) -> Checked
-    requires { ⌜ OneMap (now msg) ⌝ }
-    ensures { λ r. ⌜ r ≡ settledOf c (mapAt 3 (now (msg .entry)) 1) (throughOf c (now (msg .entry)) (mapAt 3 (now (msg .entry)) 1) (rowsOf c)) ⌝ }
-{
-    let mut place = walk::inside(msg, 1);
-    let mut wanted = 1;
-    let mut ours = false;
-    while place < msg.len() {
-        let mid = walk::key_end(msg, place);
-        let next = walk::item_end(msg, mid, 3);
-        let key = msg[place];
-        let one = known(msg, c, key, mid, next);
-        match one {
-            Value::Wrong(e, p) => {
-                return Checked::Refused(e, p);
-            }
-            Value::Fine => {}
-            Value::Ours => {
-                ours = true;
-            }
-        }
-        if key == wanted {
-            wanted += 1;
-        }
-        place = next;
-    }
-    finished(msg, c, wanted, ours)
-}
-
 // The one canonical map that follows the command, with nothing after, or where the first fault stands. The map is read in the part that
 // begins after the command byte, so what is found there is one byte further on.
 fn one_map(msg: &[u8]) -> Item
@@ -265,14 +247,103 @@ fn one_map(msg: &[u8]) -> Item
     }
 }
 
+// The next entry of the map: where its value begins and where it ends, or where the first fault in it stands. The key before stands from prev up
+// to stop; before the first there is none, and no bytes.
+fn next_entry(msg: &[u8], prev: usize, stop: usize, at: usize) -> Next
+    requires { ⌜ (prev ≤ stop) × (stop ≤ length (now msg)) × (at ≤ length (now msg)) × KeyOrNone (part (now msg) prev stop) ⌝ }
+    ensures { λ r. ⌜ r ≡ nextOf (now (msg .entry)) (part (now (msg .entry)) prev stop) at ⌝ }
+{
+    let key = cbor::read_next_key(msg, prev, stop, at);
+    match key {
+        Item::Len(mid) => {
+            let value = cbor::read_item(&msg[mid..], 3);
+            match value {
+                Item::Len(n) => Next::Whole(mid, mid + n),
+                Item::Fault(p) => Next::Broken(mid + p),
+            }
+        }
+        Item::Fault(p) => Next::Broken(p),
+    }
+}
+
+// The answer after the last entry, which ends at `at`: nothing may follow the map.
+fn ended(msg: &[u8], c: Command, at: usize, wanted: u8, ours: bool) -> Checked
+    requires { ⌜ (at ≡ length (now msg) → OneMap (now msg)) ⌝ }
+    ensures { λ r. ⌜ r ≡ endedOf c (now (msg .entry)) (mapAt 3 (now (msg .entry)) 1) at wanted ours ⌝ }
+{
+    if at == msg.len() {
+        return finished(msg, c, wanted, ours);
+    }
+    Checked::Refused(INVALID_CBOR, at)
+}
+
+// A value is wrong. A fault of the form comes first, wherever it stands, so the rest of the map is looked at too.
+fn wrong(msg: &[u8], status: u8, place: usize) -> Checked
+    requires { ⌜ 0 < length (now msg) ⌝ }
+    ensures { λ r. ⌜ r ≡ orFault (oneMap (now (msg .entry))) (Refused status place) ⌝ }
+{
+    let map = one_map(msg);
+    match map {
+        Item::Len(_) => Checked::Refused(status, place),
+        Item::Fault(p) => Checked::Refused(INVALID_CBOR, p),
+    }
+}
+
+// The entries of the map, so many after a head of this size: each is read, and looked at if its key is known. Canonical keys rise, so one pass
+// meets the known keys in their order.
+fn through(msg: &[u8], c: Command, count: u64, size: usize) -> Checked
+    requires { ⌜ (0 < length (now msg)) × (1 + size ≤ length (now msg)) × (majorAt (now msg) 1 ≡ map) × (headOf (drop 1 (now msg)) ≡ Of Map count size) ⌝ }
+    ensures { λ r. ⌜ r ≡ parametersOf c (now (msg .entry)) ⌝ }
+{
+    let start = 1 + size;
+    let mut prev = start;
+    let mut stop = start;
+    let mut at = start;
+    let mut left = count;
+    let mut wanted = 1;
+    let mut ours = false;
+    while left > 0 {
+        let found = next_entry(msg, prev, stop, at);
+        match found {
+            Next::Broken(p) => {
+                return Checked::Refused(INVALID_CBOR, p);
+            }
+            Next::Whole(mid, next) => {
+                let key = msg[at];
+                let one = known(msg, c, key, mid, next);
+                match one {
+                    Value::Wrong(e, p) => {
+                        return wrong(msg, e, p);
+                    }
+                    Value::Fine => {}
+                    Value::Ours => {
+                        ours = true;
+                    }
+                }
+                prev = at;
+                stop = mid;
+                at = next;
+                left -= 1;
+                if key == wanted {
+                    wanted += 1;
+                }
+            }
+        }
+    }
+    ended(msg, c, at, wanted, ours)
+}
+
 // A command that continues with a map.
 pub fn parameters(msg: &[u8], c: Command) -> Checked
     requires { ⌜ 0 < length (now msg) ⌝ }
     ensures { λ r. ⌜ r ≡ parametersOf c (now (msg .entry)) ⌝ }
 {
-    let map = one_map(msg);
-    match map {
-        Item::Len(_) => through(msg, c),
-        Item::Fault(p) => Checked::Refused(INVALID_CBOR, p),
+    if walk::major(msg, 1) != MAP {
+        return Checked::Refused(INVALID_CBOR, 1);
+    }
+    let front = cbor::read_front(&msg[1..]);
+    match front {
+        Front::Holds(count, size) => through(msg, c, count, size),
+        Front::NoHead => Checked::Refused(INVALID_CBOR, 1),
     }
 }

@@ -69,14 +69,18 @@ fn is_ascii(s: &[u8], start: usize, end: usize) -> bool
     all < 0x80
 }
 
-// The length of the sequence at the start, by the table's rows; 0 where none begins.
+// The length of the sequence at the start, by the table's rows; 0 where none begins. The row of two bytes comes first: most letters beside ASCII's
+// are in it, and it needs no jump by the first byte.
 fn sequence(s: &[u8]) -> usize
     requires { ⌜ 0 < length (now s) ⌝ }
     ensures { λ r. ⌜ r ≡ sequenceOf (now (s .entry)) ⌝ }
 {
-    match s[0] {
+    let first = s[0];
+    if 0xc2 <= first && first <= 0xdf {
+        return followed(s, 0x80, 0xbf, 0);
+    }
+    match first {
         0x00..=0x7f => 1,
-        0xc2..=0xdf => followed(s, 0x80, 0xbf, 0),
         0xe0 => followed(s, 0xa0, 0xbf, 1),
         0xe1..=0xec => followed(s, 0x80, 0xbf, 1),
         0xed => followed(s, 0x80, 0x9f, 1),

@@ -1,10 +1,9 @@
 -- Laws of packets, at USB's payload sizes. Assumes nothing.
 use Prim.Native.Nat.{ℕ, zero, suc, _+_, _-_, _%_, _≤_, _<_}
-use mathlib.Core.Path.{_≡_, refl, sym, ap, _∙_}
+use mathlib.Core.Path.{_≡_, refl, sym, _∙_}
 use mathlib.Core.List.{List, [], _∷_, _++_, append-assoc}
 use native.Mathlib.Omega.{arith}
-use lib.ListN.{length, take, drop, replicate, length-append, length-take, length-replicate, replicate-append-replicate}
-use lib.Seq.{take-append-seam, drop-append-add, drop-at}
+use lib.ListN.{length, take, drop, replicate, length-append}
 use Rattle.wire.specs.declared.Channel.{Channel}
 use Rattle.wire.specs.Copying.{onto, overwrite}
 use Rattle.wire.specs.Cutting.{packetsNeeded, begins, room, carries, cut}

@@ -30,7 +30,8 @@ fn copy_block(dst: &mut [u8], src: &[u8])
     copy_bytes(dst, &held);
 }
 
-// All of src into the front of dst; the other bytes of dst stay. The last block ends where src does, and so goes over some bytes of the one before it.
+// All of src into the front of dst; the other bytes of dst stay. The last block ends where src does, and so goes over some bytes of the one
+// before it.
 pub fn copy_front(dst: &mut [u8], src: &[u8])
     requires { ⌜ length (now src) ≤ length (now dst) ⌝ }
     ensures { λ _. ⌜ now (dst .exit) ≡ onto (now (src .entry)) (now (dst .entry)) ⌝ }

@@ -11,11 +11,13 @@ use borrow.Author.Needs.{needs}
 use borrow.Author.Tests.{leb-true}
 use borrow.Fn.Kinds.{In}
 use borrow.Fn.PlainCycle.{Measures, is, falls, and}
+use Rattle.cbor.specs.Head.{headOf}
 use Rattle.cbor.specs.Item.{part, keyOf, elementsOf, entriesOf, itemOf}
 use Rattle.cbor.specs.Answer.{asNumber, KeyOrNone}
-use Rattle.cbor.proofs.Items.{item-within, key-within, key-none, key-high, key-low}
+use Rattle.cbor.proofs.Items.{rest, item-within, key-within, key-none, key-high, key-low}
+use Rattle.cbor.proofs.Inside.{no-part}
 use Rattle.cbor.proofs.Numbers.{here, here-within, room}
-use Rattle.cbor.proofs.Readers.{bad, starts-within, plain, no-level, level, item-none, short-cut, short-whole, short-text, next-stop, read-is-key, next-is-key, next-good, next-late, elements-done, elements-step, elements-stop, entries-done, entries-step, entries-stop-key, entries-stop-value, value-within, no-part}
+use Rattle.cbor.proofs.Readers.{bad, starts-within, plain, no-level, level, item-none, short-cut, short-whole, short-text, next-stop, read-is-key, next-is-key, next-good, next-late, elements-done, elements-step, elements-stop, entries-done, entries-step, entries-stop-key, entries-stop-value, value-within}
 use Rattle.cbor.proofs.reader.elements.Reads as elements
 use Rattle.cbor.proofs.reader.elements.Kinds as elements-kinds
 use Rattle.cbor.proofs.reader.+elements+entries+extent+extent_by_head+key_extent+next_key.Lts-elements as elements-lts
@@ -206,47 +208,51 @@ module _ (t : ℕ) where
   extent-returns-5 : extent-lts.Need-returns-5 extent-calls extent-at extent.Post
   extent-returns-5 c = short-cut _ _ _ (c .before .before .before .before .if1 .left) (c .before .if2 .left) (c .before .before .short-length .ensures) (c .if5 .left)
 
+  -- the head was read in all of the part
+  head-read : (c : extent-by-head-lts.After-read-head extent-by-head-calls extent-by-head-at extent-by-head.Post) → c .read-head .result ≡ headOf (c .before .before .before .args .msg .now)
+  head-read c = c .read-head .ensures ∙ ap headOf (rest (c .before .before .before .args .msg .now) 0)
+
   extent-by-head-string-requires : extent-by-head-lts.Need-string-requires extent-by-head-calls extent-by-head-at extent-by-head.Post
-  extent-by-head-string-requires c κs = starts-within _ (c .before .before .before .before .before .read-head .ensures) (c .before .before .before .head .given .1)
+  extent-by-head-string-requires c κs = starts-within _ (head-read (c .before .before .before .before .before)) (c .before .before .before .head .given .1)
 
   extent-by-head-text-requires : extent-by-head-lts.Need-text-requires extent-by-head-calls extent-by-head-at extent-by-head.Post
-  extent-by-head-text-requires c κs = starts-within _ (c .before .before .before .before .before .read-head .ensures) (c .before .before .before .head .given .1)
+  extent-by-head-text-requires c κs = rw (rest (c .before .before .before .before .before .before .before .before .before .args .msg .now) 0) (starts-within _ (head-read (c .before .before .before .before .before .before)) (c .before .before .before .before .head .given .1))
 
   extent-by-head-returns : extent-by-head-lts.Need-returns extent-by-head-calls extent-by-head-at extent-by-head.Post
-  extent-by-head-returns c = sym (ap asNumber (no-level _ _ (c .before .before .before .before .before .before .read-head .ensures) (c .before .before .before .before .head .given .1) (c .before .enum-told5 .given .1) (c .if1 .taken)))
+  extent-by-head-returns c = sym (ap asNumber (no-level _ _ (head-read (c .before .before .before .before .before .before)) (c .before .before .before .before .head .given .1) (c .before .enum-told5 .given .1) (c .if1 .taken)))
 
   extent-by-head-elements-requires : extent-by-head-lts.Need-elements-requires extent-by-head-calls extent-by-head-at extent-by-head.Post
-  extent-by-head-elements-requires c κs = (omega (arith, pos-of-ne-zero (c .if1 .left)), starts-within _ (c .before .before .before .before .before .before .read-head .ensures) (c .before .before .before .before .head .given .1))
+  extent-by-head-elements-requires c κs = (omega (arith, pos-of-ne-zero (c .if1 .left)), starts-within _ (head-read (c .before .before .before .before .before .before)) (c .before .before .before .before .head .given .1))
 
   extent-by-head-returns-2 : extent-by-head-lts.Need-returns-2 extent-by-head-calls extent-by-head-at extent-by-head.Post
-  extent-by-head-returns-2 c = sym (ap asNumber (no-level _ _ (c .before .before .before .before .before .before .read-head .ensures) (c .before .before .before .before .head .given .1) (c .before .enum-told6 .given .1) (c .if2 .taken)))
+  extent-by-head-returns-2 c = sym (ap asNumber (no-level _ _ (head-read (c .before .before .before .before .before .before)) (c .before .before .before .before .head .given .1) (c .before .enum-told6 .given .1) (c .if2 .taken)))
 
   extent-by-head-entries-requires : extent-by-head-lts.Need-entries-requires extent-by-head-calls extent-by-head-at extent-by-head.Post
-  extent-by-head-entries-requires c κs = (omega (arith, pos-of-ne-zero (c .if2 .left)), starts-within _ (c .before .before .before .before .before .before .read-head .ensures) (c .before .before .before .before .head .given .1))
+  extent-by-head-entries-requires c κs = (omega (arith, pos-of-ne-zero (c .if2 .left)), starts-within _ (head-read (c .before .before .before .before .before .before)) (c .before .before .before .before .head .given .1))
 
   extent-by-head-returns-3 : extent-by-head-lts.Need-returns-3 extent-by-head-calls extent-by-head-at extent-by-head.Post
-  extent-by-head-returns-3 c = sym (ap asNumber (plain _ _ (c .before .before .before .before .before .read-head .ensures) (c .before .before .before .head .given .1) (c .enum-told .given .1) tt))
+  extent-by-head-returns-3 c = sym (ap asNumber (plain _ _ (head-read (c .before .before .before .before .before)) (c .before .before .before .head .given .1) (c .enum-told .given .1) tt))
 
   extent-by-head-returns-4 : extent-by-head-lts.Need-returns-4 extent-by-head-calls extent-by-head-at extent-by-head.Post
-  extent-by-head-returns-4 c = sym (ap asNumber (plain _ _ (c .before .before .before .before .before .read-head .ensures) (c .before .before .before .head .given .1) (c .enum-told2 .given .1) tt))
+  extent-by-head-returns-4 c = sym (ap asNumber (plain _ _ (head-read (c .before .before .before .before .before)) (c .before .before .before .head .given .1) (c .enum-told2 .given .1) tt))
 
   extent-by-head-returns-5 : extent-by-head-lts.Need-returns-5 extent-by-head-calls extent-by-head-at extent-by-head.Post
-  extent-by-head-returns-5 c = c .string .ensures ∙ sym (ap asNumber (plain _ _ (c .before .before .before .before .before .before .read-head .ensures) (c .before .before .before .before .head .given .1) (c .before .enum-told3 .given .1) tt))
+  extent-by-head-returns-5 c = c .string .ensures ∙ sym (ap asNumber (plain _ _ (head-read (c .before .before .before .before .before .before)) (c .before .before .before .before .head .given .1) (c .before .enum-told3 .given .1) tt))
 
   extent-by-head-returns-6 : extent-by-head-lts.Need-returns-6 extent-by-head-calls extent-by-head-at extent-by-head.Post
-  extent-by-head-returns-6 c = c .text .ensures ∙ sym (ap asNumber (plain _ _ (c .before .before .before .before .before .before .read-head .ensures) (c .before .before .before .before .head .given .1) (c .before .enum-told4 .given .1) tt))
+  extent-by-head-returns-6 c = (rw (rest (c .before .before .before .before .before .before .before .before .before .before .args .msg .now) 0) at (c .text .ensures)) ∙ sym (ap asNumber (plain _ _ (head-read (c .before .before .before .before .before .before .before)) (c .before .before .before .before .before .head .given .1) (c .before .before .enum-told4 .given .1) tt))
 
   extent-by-head-returns-7 : extent-by-head-lts.Need-returns-7 extent-by-head-calls extent-by-head-at extent-by-head.Post
-  extent-by-head-returns-7 c = c .elements .ensures ∙ sym (ap asNumber (level _ _ (c .before .before .before .before .before .before .before .read-head .ensures) (c .before .before .before .before .before .head .given .1) (c .before .before .enum-told5 .given .1) (c .before .if1 .left)))
+  extent-by-head-returns-7 c = c .elements .ensures ∙ sym (ap asNumber (level _ _ (head-read (c .before .before .before .before .before .before .before)) (c .before .before .before .before .before .head .given .1) (c .before .before .enum-told5 .given .1) (c .before .if1 .left)))
 
   extent-by-head-returns-8 : extent-by-head-lts.Need-returns-8 extent-by-head-calls extent-by-head-at extent-by-head.Post
-  extent-by-head-returns-8 c = c .entries .ensures ∙ sym (ap asNumber (level _ _ (c .before .before .before .before .before .before .before .read-head .ensures) (c .before .before .before .before .before .head .given .1) (c .before .before .enum-told6 .given .1) (c .before .if2 .left)))
+  extent-by-head-returns-8 c = c .entries .ensures ∙ sym (ap asNumber (level _ _ (head-read (c .before .before .before .before .before .before .before)) (c .before .before .before .before .before .head .given .1) (c .before .before .enum-told6 .given .1) (c .before .if2 .left)))
 
   extent-by-head-returns-9 : extent-by-head-lts.Need-returns-9 extent-by-head-calls extent-by-head-at extent-by-head.Post
-  extent-by-head-returns-9 c = sym (ap asNumber (plain _ _ (c .before .before .before .before .before .read-head .ensures) (c .before .before .before .head .given .1) (c .enum-told7 .given .1) tt))
+  extent-by-head-returns-9 c = sym (ap asNumber (plain _ _ (head-read (c .before .before .before .before .before)) (c .before .before .before .head .given .1) (c .enum-told7 .given .1) tt))
 
   extent-by-head-returns-10 : extent-by-head-lts.Need-returns-10 extent-by-head-calls extent-by-head-at extent-by-head.Post
-  extent-by-head-returns-10 c = sym (ap asNumber (bad _ _ (c .before .before .read-head .ensures) (c .enum-told8 .given .1)))
+  extent-by-head-returns-10 c = sym (ap asNumber (bad _ _ (head-read (c .before .before)) (c .enum-told8 .given .1)))
 
   key-extent-returns : key-extent-lts.Need-returns key-extent-calls key-extent-at key-extent.Post
   key-extent-returns c = sym (ap asNumber (key-none _ (c .if1 .taken)))
@@ -316,12 +322,18 @@ pub +elements+entries+extent+extent-by-head+key-extent+next-key-spec : {M : Type
     (extent-returns-4 t)
     (extent-returns-5 t))
     (λ t. extent-by-head-lts.spec (extent-by-head-calls t) (extent-by-head-at t) extent-by-head.Post
+    (λ c. search needs)
+    (λ c. search needs)
+    (λ c. search needs)
     (λ c κs. search needs)
     (λ c. search needs)
     (λ c. search needs)
     (λ c. search needs)
     (λ c. search needs)
     (extent-by-head-string-requires t)
+    (λ c. search needs)
+    (λ c. search needs)
+    (λ c. search needs)
     (λ c. search needs)
     (extent-by-head-text-requires t)
     (λ c. search needs)

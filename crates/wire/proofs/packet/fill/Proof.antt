@@ -5,7 +5,6 @@ use native.Mathlib.Omega.{arith}
 use lib.ListN.{length, take, drop, replicate, length-take, length-drop, length-replicate}
 use denote.Ref.{now}
 use borrow.Author.Needs.{needs}
-use Rattle.wire.specs.Copying.{overwrite}
 use Rattle.wire.proofs.Copies.{overwrite-length, overwrite-more, part-whole}
 use Rattle.wire.proofs.packet.fill.Statement.{statement}
 use Rattle.wire.proofs.packet.fill.Tie as tie

@@ -1,8 +1,9 @@
 -- `opening_header` meets its contract: two bytes more behind the channel and byte 4.
-use Prim.Native.Nat.{_+_, _/_, _%_}
-use mathlib.Core.List.{[], _∷_, _++_}
+use Prim.Native.Nat.{ℕ, _+_, _/_, _%_}
+use mathlib.Core.Path.{ap, _∙_}
+use mathlib.Core.List.{List, [], _∷_, _++_}
 use native.Mathlib.Omega.{arith}
-use lib.ListN.{length-set}
+use lib.ListN.{set, length-set}
 use denote.Ref.{now}
 use borrow.Author.Needs.{needs}
 use Rattle.wire.specs.Packet.{bytes4, bytes2}
@@ -19,8 +20,10 @@ returns c =
     let a = c .before .before .before .before .before .args in
     let head = bytes4 (a .c .0) ++ (128 + a .command) ∷ [] in
     let high = a .n / 256 % 256 in
-    rw (c .before .before .later-header .ensures, next-byte head (now (a .packet)) high (omega arith))
-    (next-byte (head ++ high ∷ []) (now (a .packet)) (a .n % 256) (omega arith))
+    let low = a .n % 256 in
+    ap (λ (l : List ℕ). set (set l 5 high) 6 low) (c .before .before .later-header .ensures)
+    ∙ ap (λ (l : List ℕ). set l 6 low) (next-byte head (now (a .packet)) high (omega arith))
+    ∙ next-byte (head ++ high ∷ []) (now (a .packet)) low (omega arith)
 
 pub opening-header-spec : {M : Type 1} → statement M
 opening-header-spec =

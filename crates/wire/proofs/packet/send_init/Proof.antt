@@ -4,9 +4,8 @@ use native.Mathlib.Omega.{arith}
 use lib.ListN.{length, take, drop, length-take, length-drop}
 use denote.Ref.{now}
 use borrow.Author.Needs.{needs}
-use Rattle.wire.specs.Copying.{onto, overwrite}
-use Rattle.wire.specs.Packet.{bytes4, channelOf, packetOf, initReply}
-use Rattle.wire.specs.declared.Channel.{Channel}
+use Rattle.wire.specs.Copying.{overwrite}
+use Rattle.wire.specs.Packet.{bytes4, initReply}
 use Rattle.wire.proofs.Copies.{overwrite-length}
 use Rattle.wire.proofs.Packets.{at-least-1, nonce-over}
 use Rattle.wire.proofs.packet.send_init.Statement.{statement}
