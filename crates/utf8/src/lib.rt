@@ -21,7 +21,7 @@ pub fn is_utf8(s: &[u8]) -> bool
             if n == 0 {
                 return false;
             }
-            at += n;
+            at = past_pairs(s, at + n);
         }
     }
     true
@@ -69,18 +69,37 @@ fn is_ascii(s: &[u8], start: usize, end: usize) -> bool
     all < 0x80
 }
 
-// The length of the sequence at the start, by the table's rows; 0 where none begins. The row of two bytes comes first: most letters beside ASCII's
-// are in it, and it needs no jump by the first byte.
+// Past the sequences of two bytes that begin at start, by the table's second row alone: most letters beside ASCII's are in it, and one of them is
+// mostly followed by another.
+fn past_pairs(s: &[u8], start: usize) -> usize
+    requires { ⌜ start ≤ length (now s) ⌝ }
+    ensures { λ r. ⌜ (start ≤ r) × (r ≤ length (now (s .entry))) × (utf8 (drop start (now (s .entry))) ≡ utf8 (drop r (now (s .entry)))) ⌝ }
+{
+    let mut at = start;
+    while at < s.len() {
+        if s[at] < 0xc2 {
+            return at;
+        }
+        if 0xdf < s[at] {
+            return at;
+        }
+        let n = followed(&s[at..], 0x80, 0xbf, 0);
+        if n == 0 {
+            return at;
+        }
+        at += n;
+    }
+    at
+}
+
+// The length of the sequence at the start, by the table's rows; 0 where none begins.
 fn sequence(s: &[u8]) -> usize
     requires { ⌜ 0 < length (now s) ⌝ }
     ensures { λ r. ⌜ r ≡ sequenceOf (now (s .entry)) ⌝ }
 {
-    let first = s[0];
-    if 0xc2 <= first && first <= 0xdf {
-        return followed(s, 0x80, 0xbf, 0);
-    }
-    match first {
+    match s[0] {
         0x00..=0x7f => 1,
+        0xc2..=0xdf => followed(s, 0x80, 0xbf, 0),
         0xe0 => followed(s, 0xa0, 0xbf, 1),
         0xe1..=0xec => followed(s, 0x80, 0xbf, 1),
         0xed => followed(s, 0x80, 0x9f, 1),
