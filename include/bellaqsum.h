@@ -27,7 +27,7 @@
  *   - the buffers of one call do not overlap;
  *   - no two calls on the same block run at once: an interrupt handler and the main loop take turns.
  * Nothing is allocated, no function is called back, and no more is kept than what stands in the block. The deepest call, a command that is
- * checked, takes some 1,200 bytes of stack on x86-64. The archive is for 64-bit machines, and wants memcpy of the C library.
+ * checked, takes some 1,200 bytes of stack on x86-64. The archive is for 64-bit machines, and wants memset of the C library.
  *
  * The functions are proved to do what the rules of the key say, for every input; docs/BLOCK.md says what that means for the block.
  */
