@@ -22,7 +22,7 @@ returns-2 c = simp (c .refused2 .ensures, lt-ltb _ _ (c .before .if3 .taken), le
 send-requires : tie.Need-send-requires
 send-requires c κs =
     let g = answering-parts (c .before .before .before .before .before .before .before .before .before .before .before .args .s) _ _ _ _ (sym (c .before .before .before .before .before .before .before .before .in-order .ensures) ∙ c .before .before .before .before .before .before .before .if1 .taken) (c .before .before .f .given .1) in
-    (search needs, starts-small _ (g .opens), g .size, omega (arith, g .size), g .more)
+    (search needs, starts-small _ (g .opens), g .size, omega (arith, g .size), omega (arith, g .more))
 
 advance-requires : tie.Need-advance-requires
 advance-requires c κs =
