@@ -2,10 +2,10 @@
 use crate::bench;
 use crate::bench::Bench;
 use crate::bench::Taken;
-use crate::output;
-use crate::words;
-use crate::words::Hex;
-use crate::words::Number32;
+use script::output;
+use script::words;
+use script::words::Hex;
+use script::words::Number32;
 use state::Answer;
 use state::Outcome;
 use state::Ticket;

@@ -1,13 +1,13 @@
 // The checking call, the APDU reader and the item reader on bytes alone.
 use crate::bench::Bench;
 use crate::bench::Taken;
-use crate::output;
-use crate::words;
-use crate::words::Hex;
-use crate::words::Number8;
 use apdu::Apdu;
 use cbor::Item;
 use command::Checked;
+use script::output;
+use script::words;
+use script::words::Hex;
+use script::words::Number8;
 ghost use Prim.Native.Nat.{_≤_};
 ghost use lib.ListN.{length};
 ghost use Rattle.bench.specs.Bench.{lends, fits, answerSize};

@@ -6,11 +6,14 @@ use crate::checks;
 use crate::checks::Asked;
 use crate::settings;
 use crate::showing;
-use crate::words;
 use check::same;
+use script::words;
 ghost use Prim.Native.Nat.{_≤_};
 ghost use lib.ListN.{length};
 ghost use Rattle.bench.specs.Bench.{laid, fits, answerSize};
+
+// A line of more bytes is not taken, whatever it begins with.
+pub(crate) const LONGEST: usize = 20000;
 
 const REMARK: u8 = b'#';
 
@@ -32,6 +35,9 @@ enum Kind {
 }
 
 fn kind_of(line: &[u8]) -> Kind {
+    if LONGEST < line.len() {
+        return Kind::Unknown;
+    }
     if line.len() == 0 {
         return Kind::Nothing;
     }

@@ -2,11 +2,11 @@
 use crate::bench;
 use crate::bench::Bench;
 use crate::bench::Taken;
-use crate::words;
-use crate::words::Number;
-use crate::words::Number8;
-use crate::words::Number32;
 use check::same;
+use script::words;
+use script::words::Number;
+use script::words::Number8;
+use script::words::Number32;
 use state::Phase;
 use state::State;
 use state::Ticket;

@@ -1,6 +1,6 @@
 // `show`: the key's state and what is lent to it.
 use crate::bench::Bench;
-use crate::output;
+use script::output;
 use state::Phase;
 use state::State;
 ghost use Prim.Native.Nat.{_+_, _*_, _≤_};

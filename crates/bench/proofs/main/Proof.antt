@@ -1,14 +1,17 @@
--- The bench lends what it has from turn to turn; the turns that are left fall.
+-- The bench lends what it has and the buffers keep their lengths from turn to turn; the turns that are left fall.
+use mathlib.Core.Path.{_≡_}
 use borrow.Author.Needs.{needs}
-use Rattle.bench.specs.Lines.{keeps}
+use lib.ListN.{length}
+use Rattle.script.specs.Lines.{within}
+use Rattle.bench.specs.Bench.{laid}
 use Rattle.bench.proofs.main.Statement.{statement}
 use Rattle.bench.proofs.main.Tie as tie
 
 abbrev Inv-loop : tie.InvT-loop
-Inv-loop line₀ reply₀ message₀ desk₀ turns₀ line reply message desk turns = keeps desk
+Inv-loop input₀ line₀ reply₀ message₀ bench₀ lines₀ turns₀ input line reply message bench lines turns = laid bench reply message × within lines input line × (length input ≡ 4096) × (length line ≡ 20001)
 
 abbrev μ-loop : tie.MeasureT-loop
-μ-loop line₀ reply₀ message₀ desk₀ turns₀ line reply message desk turns = turns
+μ-loop input₀ line₀ reply₀ message₀ bench₀ lines₀ turns₀ input line reply message bench lines turns = turns
 
 pub main-spec : {M : Type 1} → statement M
 main-spec =
@@ -17,6 +20,13 @@ main-spec =
     Inv-loop
     μ-loop
     (λ c κs. search needs)
+    (λ c κs. search needs)
+    (λ c. search needs)
+    (λ c. search needs)
+    (λ c. search needs)
+    (λ c κs. search needs)
+    (λ c. search needs)
+    (λ c. search needs)
     (λ c. search needs)
     (λ c κs. search needs)
     (λ c. search needs)

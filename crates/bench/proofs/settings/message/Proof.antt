@@ -1,6 +1,6 @@
 -- The number that was read is at most the buffer's size, so what is lent lies within it.
 use native.Mathlib.Omega.{arith}
-use Rattle.bench.proofs.Bounds.{number-bound}
+use Rattle.script.proofs.Bounds.{number-bound}
 use borrow.Author.Needs.{needs}
 use Rattle.bench.proofs.settings.message.Statement.{statement}
 use Rattle.bench.proofs.settings.message.Tie as tie

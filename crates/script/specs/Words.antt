@@ -1,8 +1,8 @@
 use Prim.Native.Nat.{ℕ, _≤_}
-use Rattle.bench.specs.declared.words.Hex.{Hex}
-use Rattle.bench.specs.declared.words.Hex.the-variants.{Bytes, Bad as NoBytes}
-use Rattle.bench.specs.declared.words.Number.{Number}
-use Rattle.bench.specs.declared.words.Number.the-variants.{Is, Bad}
+use Rattle.script.specs.declared.words.Hex.{Hex}
+use Rattle.script.specs.declared.words.Hex.the-variants.{Bytes, Bad as NoBytes}
+use Rattle.script.specs.declared.words.Number.{Number}
+use Rattle.script.specs.declared.words.Number.the-variants.{Is, Bad}
 
 -- a number that was read is at most the number allowed
 abbrev pub atMost : ℕ → Number → Type 0

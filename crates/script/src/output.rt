@@ -1,10 +1,11 @@
 // Writing an answer into a lent buffer. `at` bytes of the answer stand there before a call, and the call returns how many stand there after it.
+use libc::STDOUT_FILENO;
 use wire::copying;
 ghost use mathlib.Core.Path.{_≡_};
 ghost use Prim.Native.Nat.{_+_, _*_, _<_, _≤_};
 ghost use lib.ListN.{length};
 
-pub(crate) fn text(at: usize, bytes: &[u8], out: &mut [u8]) -> usize
+pub fn text(at: usize, bytes: &[u8], out: &mut [u8]) -> usize
     requires { ⌜ at + length (now bytes) ≤ length (now out) ⌝ }
     ensures { λ r. ⌜ r ≡ at + length (now (bytes .entry)) ⌝ }
 {
@@ -19,7 +20,7 @@ fn digit(n: u8) -> u8
 }
 
 // Bytes in hex, in lower case.
-pub(crate) fn hex(at: usize, bytes: &[u8], out: &mut [u8]) -> usize
+pub fn hex(at: usize, bytes: &[u8], out: &mut [u8]) -> usize
     requires { ⌜ at + 2 * length (now bytes) ≤ length (now out) ⌝ }
     ensures { λ r. ⌜ r ≡ at + 2 * length (now (bytes .entry)) ⌝ }
 {
@@ -36,7 +37,7 @@ pub(crate) fn hex(at: usize, bytes: &[u8], out: &mut [u8]) -> usize
 }
 
 // A space and a number of at most 20 digits.
-pub(crate) fn number(at: usize, n: u64, out: &mut [u8]) -> usize
+pub fn number(at: usize, n: u64, out: &mut [u8]) -> usize
     requires { ⌜ at + 21 ≤ length (now out) ⌝ }
     ensures { λ r. ⌜ r ≤ at + 21 ⌝ }
 {
@@ -46,7 +47,7 @@ pub(crate) fn number(at: usize, n: u64, out: &mut [u8]) -> usize
 }
 
 // A line of words and a number.
-pub(crate) fn numbered(words: &[u8], n: u64, out: &mut [u8]) -> usize
+pub fn numbered(words: &[u8], n: u64, out: &mut [u8]) -> usize
     requires { ⌜ length (now words) + 22 ≤ length (now out) ⌝ }
     ensures { λ r. ⌜ r ≤ length (now (words .entry)) + 22 ⌝ }
 {
@@ -55,10 +56,15 @@ pub(crate) fn numbered(words: &[u8], n: u64, out: &mut [u8]) -> usize
 }
 
 // A line of words and bytes.
-pub(crate) fn in_hex(at: usize, words: &[u8], bytes: &[u8], out: &mut [u8]) -> usize
+pub fn in_hex(at: usize, words: &[u8], bytes: &[u8], out: &mut [u8]) -> usize
     requires { ⌜ at + length (now words) + 2 * length (now bytes) + 1 ≤ length (now out) ⌝ }
     ensures { λ r. ⌜ r ≡ at + length (now (words .entry)) + 2 * length (now (bytes .entry)) + 1 ⌝ }
 {
     let end = hex(text(at, words, out), bytes, out);
     text(end, b"\n", out)
+}
+
+// An answer goes out with one call.
+pub fn write(answer: &[u8]) {
+    io::write_all(STDOUT_FILENO, answer);
 }

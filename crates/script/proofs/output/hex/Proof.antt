@@ -4,8 +4,8 @@ use Prim.Native.Nat.{_≤_, _+_, _*_, _-_}
 use native.Mathlib.Omega.{arith}
 use borrow.Author.Needs.{needs}
 use lib.ListN.{length, length-set}
-use Rattle.bench.proofs.output.hex.Statement.{statement}
-use Rattle.bench.proofs.output.hex.Tie as tie
+use Rattle.script.proofs.output.hex.Statement.{statement}
+use Rattle.script.proofs.output.hex.Tie as tie
 
 abbrev Inv-loop : tie.InvT-loop
 Inv-loop at bytes out₀ end₀ i₀ out end i = (i ≤ length bytes) × (end ≡ at + 2 * i) × (length out ≡ length out₀)

@@ -3,8 +3,8 @@ use mathlib.Core.Path.{_≡_}
 use Prim.Native.Nat.{_≤_, _*_, _-_}
 use borrow.Author.Needs.{needs}
 use lib.ListN.{length}
-use Rattle.bench.proofs.words.bytes_of.Statement.{statement}
-use Rattle.bench.proofs.words.bytes_of.Tie as tie
+use Rattle.script.proofs.words.bytes_of.Statement.{statement}
+use Rattle.script.proofs.words.bytes_of.Tie as tie
 
 abbrev Inv-loop : tie.InvT-loop
 Inv-loop text into₀ n i₀ into i = (n ≤ length into) × (n * 2 ≡ length text) × (length into ≡ length into₀)

@@ -1,11 +1,11 @@
 -- A number of 64 bits has at most 20 digits (Bounds), so a space and its digits fit into 21 bytes.
 use native.Mathlib.Omega.{arith}
-use Rattle.bench.proofs.Bounds.{digits-bound}
+use Rattle.script.proofs.Bounds.{digits-bound}
 use Prim.Native.Nat.{_-_}
 use lib.Seq.{length-take-le}
 use borrow.Author.Needs.{needs}
-use Rattle.bench.proofs.output.number.Statement.{statement}
-use Rattle.bench.proofs.output.number.Tie as tie
+use Rattle.script.proofs.output.number.Statement.{statement}
+use Rattle.script.proofs.output.number.Tie as tie
 
 text-requires-2 : tie.Need-text-requires-2
 text-requires-2 c κs =

@@ -2,8 +2,8 @@
 use Prim.Native.Nat.{_≤_, _-_}
 use borrow.Author.Needs.{needs}
 use lib.ListN.{length}
-use Rattle.bench.proofs.words.find.Statement.{statement}
-use Rattle.bench.proofs.words.find.Tie as tie
+use Rattle.script.proofs.words.find.Statement.{statement}
+use Rattle.script.proofs.words.find.Tie as tie
 
 abbrev Inv-loop : tie.InvT-loop
 Inv-loop text from byte at₀ at = (from ≤ at) × (at ≤ length text)

@@ -2,8 +2,8 @@
 use Prim.Native.Nat.{_≤_, _-_}
 use borrow.Author.Needs.{needs}
 use lib.ListN.{length}
-use Rattle.bench.proofs.words.number_of.Statement.{statement}
-use Rattle.bench.proofs.words.number_of.Tie as tie
+use Rattle.script.proofs.words.number_of.Statement.{statement}
+use Rattle.script.proofs.words.number_of.Tie as tie
 
 abbrev Inv-loop : tie.InvT-loop
 Inv-loop text most n₀ i₀ n i = (n ≤ most) × (i ≤ length text)

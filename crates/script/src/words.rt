@@ -1,7 +1,7 @@
 // The words of a line: single spaces between them, decimal numbers, bytes in hex.
 ghost use Prim.Native.Nat.{_≤_};
 ghost use lib.ListN.{length};
-ghost use Rattle.bench.specs.Words.{atMost, holds};
+ghost use Rattle.script.specs.Words.{atMost, holds};
 
 const SPACE: u8 = b' ';
 
@@ -11,7 +11,7 @@ const MOST_32: usize = 0xFFFFFFFF;
 const MOST_8: usize = 0xFF;
 
 // Where a byte stands first, from a place on; the text's length where it does not.
-pub(crate) fn find(text: &[u8], from: usize, byte: u8) -> usize
+pub fn find(text: &[u8], from: usize, byte: u8) -> usize
     requires { ⌜ from ≤ length (now text) ⌝ }
     ensures { λ r. ⌜ (from ≤ r) × (r ≤ length (now (text .entry))) ⌝ }
 {
@@ -26,13 +26,13 @@ pub(crate) fn find(text: &[u8], from: usize, byte: u8) -> usize
 }
 
 // The word that a text begins with: all up to the first space.
-pub(crate) fn word(text: &[u8]) -> &[u8] {
+pub fn word(text: &[u8]) -> &[u8] {
     let end = find(text, 0, SPACE);
     &text[0..end]
 }
 
 // What stands after the first space; nothing where there is none.
-pub(crate) fn rest(text: &[u8]) -> &[u8] {
+pub fn rest(text: &[u8]) -> &[u8] {
     let end = find(text, 0, SPACE);
     if end < text.len() {
         return &text[end + 1..];
@@ -59,7 +59,7 @@ pub enum Number8 {
 }
 
 // Decimal digits, one at least, for a number of at most `most`. Zeros may stand in front.
-pub(crate) fn number_of(text: &[u8], most: usize) -> Number
+pub fn number_of(text: &[u8], most: usize) -> Number
     ensures { λ r. ⌜ atMost most r ⌝ }
 {
     if text.len() == 0 {
@@ -88,14 +88,14 @@ pub(crate) fn number_of(text: &[u8], most: usize) -> Number
     Number::Is(n)
 }
 
-pub(crate) fn number32_of(text: &[u8]) -> Number32 {
+pub fn number32_of(text: &[u8]) -> Number32 {
     let Number::Is(n) = number_of(text, MOST_32) else {
         return Number32::Bad;
     };
     Number32::Is(n as u32)
 }
 
-pub(crate) fn number8_of(text: &[u8]) -> Number8 {
+pub fn number8_of(text: &[u8]) -> Number8 {
     let Number::Is(n) = number_of(text, MOST_8) else {
         return Number8::Bad;
     };
@@ -121,7 +121,7 @@ fn digit(b: u8) -> u8
 }
 
 // The bytes that a text in hex stands for, into the front of a buffer.
-pub(crate) fn bytes_of(text: &[u8], into: &mut [u8]) -> Hex
+pub fn bytes_of(text: &[u8], into: &mut [u8]) -> Hex
     ensures { λ r. ⌜ holds (length (now (into .exit))) r ⌝ }
 {
     let n = text.len() / 2;
