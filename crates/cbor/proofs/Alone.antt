@@ -94,7 +94,7 @@ unfolding stringOf
 string-same v l n s t f e = let i = string-size v l n s e in (omega arith, rw (le-leb v (length t - l) (omega arith)) (ap Len (sym i)))
 
 -- The bytes of a part that ends where these do.
-part-same : (l n : ℕ) (s t : List ℕ) → l ≤ n → Begins s t n → part t l n ≡ part s l n
+pub part-same : (l n : ℕ) (s t : List ℕ) → l ≤ n → Begins s t n → part t l n ≡ part s l n
 part-same l n s t h w =
     let a = length-take-le (n - l) (drop l s) (omega (arith, length-drop l s, w .whole)) in
     let b = length-take-le (n - l) (drop l t) (omega (arith, length-drop l t, w .fits)) in

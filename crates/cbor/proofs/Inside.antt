@@ -161,7 +161,7 @@ read-from : (f : List ℕ → Item) (s : List ℕ) (a at : ℕ) → countedFrom 
 unfolding readAt
 read-from f s a at = counted-twice a at (f (drop at (drop a s))) ∙ ap (λ (l : List ℕ). countedFrom (a + at) (f l)) (drop-drop at a s)
 
-part-shift : (s : List ℕ) (a at mid : ℕ) → part (drop a s) at mid ≡ part s (a + at) (a + mid)
+pub part-shift : (s : List ℕ) (a at mid : ℕ) → part (drop a s) at mid ≡ part s (a + at) (a + mid)
 part-shift s a at mid =
     let e : mid - at ≡ a + mid - (a + at) = omega arith in
     rw (drop-drop at a s, e)

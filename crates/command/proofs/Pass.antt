@@ -224,6 +224,12 @@ first-byte s at mid e h g =
       low = omega (arith, b, key-low (drop at s) (mid - at) (w .1));
     }
 
+-- One entry more, of a key of one byte.
+pub through-key : (c : Command) (s : List ℕ) (k p : ℕ) (es : List Entry) → After (k ∷ []) es
+    → throughOf c s (entry (k ∷ []) p ∷ es) (rowsOf c) ≡ inTurn (knownOf c s k p) (throughOf c s es (rowsOf c))
+unfolding known knownOf
+through-key c s k p es a = through-entry c s k [] p es (rowsOf c) (ascending c) (λ h. refl) a
+
 -- What a pass over the entries `all` has come to when `es` are left.
 pub record Passed (c : Command) (s : List ℕ) (all : List Entry) (wanted : ℕ) (ours : Bool) (es : List Entry) : Type 0 where
   pub values : throughOf c s all (rowsOf c) ≡ inTurn (soFar ours) (throughOf c s es (rowsOf c))
@@ -266,14 +272,14 @@ module _ (c : Command) (s : List ℕ) (at mid p : ℕ) (k : FirstByte s at mid) 
           record { values = values; absent = w .absent ∙ (rw (k .is) a) }
 
 -- After the last entry.
-less-over : (a b : ℕ) → ltb 0 (b - a) ≡ ltb a b
+pub less-over : (a b : ℕ) → ltb 0 (b - a) ≡ ltb a b
 less-over a b = go (ltb a b) refl
   where
     go : (x : Bool) → ltb a b ≡ x → ltb 0 (b - a) ≡ x
     go true e = lt-ltb 0 (b - a) (omega (arith, ltb-true a b e))
     go false e = le-ltb 0 (b - a) (omega (arith, ltb-false a b e))
 
-through-none : (c : Command) (s : List ℕ) (rows : List Row) → throughOf c s [] rows ≡ Fine
+pub through-none : (c : Command) (s : List ℕ) (rows : List Row) → throughOf c s [] rows ≡ Fine
 unfolding throughOf valueOf onFound inTurn
 through-none c s [] = refl
 through-none c s (r ∷ rows) = through-none c s rows

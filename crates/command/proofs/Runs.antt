@@ -131,7 +131,7 @@ pub kind-by : (s : List ℕ) (at m : ℕ) {k : Kind} {v l : ℕ} → m < 6 → m
 kind-by s at m h e g = shape-at s at g .kind (omega arith) ∙ ap kindOf e
 
 -- An item that was read has a head.
-no-head : {A : Type 0} (levels : ℕ) (s : List ℕ) (n : ℕ) → headOf s ≡ Bad → itemOf (suc levels) s ≡ Len n → A
+pub no-head : {A : Type 0} (levels : ℕ) (s : List ℕ) (n : ℕ) → headOf s ≡ Bad → itemOf (suc levels) s ≡ Len n → A
 unfolding itemOf byHead
 no-head levels s n e h = fault-len (rw e at h)
 

@@ -113,7 +113,7 @@ fn entry(msg: &[u8], at: usize, end: usize) -> Value
 }
 
 // The array from `at` up to `end`, entry by entry.
-pub fn algorithms(msg: &[u8], at: usize, end: usize) -> Value
+pub(crate) fn algorithms(msg: &[u8], at: usize, end: usize) -> Value
     requires { ⌜ (readAt (itemOf 3) (now msg) at ≡ Len end) × (majorAt (now msg) at ≡ array) ⌝ }
     ensures { λ r. ⌜ r ≡ algorithmsOf (now (msg .entry)) (arrayAt 2 (now (msg .entry)) at) ⌝ }
 {

@@ -3,9 +3,9 @@ ghost use mathlib.Core.Path.{_≡_};
 ghost use Rattle.command.specs.declared.Checked.the-variants.{Good};
 ghost use Rattle.command.specs.Check.{hashOf, checkOf};
 
-mod algorithms;
-mod parameters;
-mod status;
+pub mod algorithms;
+pub mod parameters;
+pub mod status;
 mod walk;
 
 use parameters::Command;
@@ -22,9 +22,9 @@ pub enum Checked {
 
 const LONGEST: usize = 7609;
 
-const MAKE_CREDENTIAL: u8 = 0x01;
+pub const MAKE_CREDENTIAL: u8 = 0x01;
 
-const GET_ASSERTION: u8 = 0x02;
+pub const GET_ASSERTION: u8 = 0x02;
 
 const GET_INFO: u8 = 0x04;
 

@@ -126,7 +126,7 @@ fn content(msg: &[u8], c: Command, key: u8, at: usize, end: usize) -> Value
 }
 
 // The entry whose key begins with this byte and whose value stands from `at` up to `end`.
-fn known(msg: &[u8], c: Command, key: u8, at: usize, end: usize) -> Value
+pub fn known(msg: &[u8], c: Command, key: u8, at: usize, end: usize) -> Value
     requires { ⌜ readAt (itemOf 3) (now msg) at ≡ Len end ⌝ }
     ensures { λ r. ⌜ r ≡ knownOf c (now (msg .entry)) key at ⌝ }
 {
@@ -141,7 +141,7 @@ fn known(msg: &[u8], c: Command, key: u8, at: usize, end: usize) -> Value
 }
 
 // The first key that is not required.
-fn required_end(c: Command) -> u8
+pub fn required_end(c: Command) -> u8
     ensures { λ r. ⌜ r ≡ requiredEnd c ⌝ }
 {
     match c {
@@ -151,7 +151,7 @@ fn required_end(c: Command) -> u8
 }
 
 // Whether an algorithm of ours is asked for and none was met.
-fn none_ours(c: Command, ours: bool) -> bool
+pub fn none_ours(c: Command, ours: bool) -> bool
     ensures { λ r. ⌜ r ≡ noneOurs c (soFar ours) ⌝ }
 {
     match c {
@@ -226,7 +226,7 @@ fn finished(msg: &[u8], c: Command, wanted: u8, ours: bool) -> Checked
 
 // The one canonical map that follows the command, with nothing after, or where the first fault stands. The map is read in the part that
 // begins after the command byte, so what is found there is one byte further on.
-fn one_map(msg: &[u8]) -> Item
+pub fn one_map(msg: &[u8]) -> Item
     requires { ⌜ 0 < length (now msg) ⌝ }
     ensures { λ r. ⌜ r ≡ oneMap (now (msg .entry)) ⌝ }
 {
@@ -334,7 +334,7 @@ fn through(msg: &[u8], c: Command, count: u64, size: usize) -> Checked
 }
 
 // A command that continues with a map.
-pub fn parameters(msg: &[u8], c: Command) -> Checked
+pub(crate) fn parameters(msg: &[u8], c: Command) -> Checked
     requires { ⌜ 0 < length (now msg) ⌝ }
     ensures { λ r. ⌜ r ≡ parametersOf c (now (msg .entry)) ⌝ }
 {

@@ -30,7 +30,7 @@ pub const CBOR: u8 = 0x10;
 
 pub const CANCEL: u8 = 0x11;
 
-const ERROR: u8 = 0x3F;
+pub const ERROR: u8 = 0x3F;
 
 fn wide(b: u8) -> u32
     ensures { λ r. ⌜ (r ≡ b) × (r < 256) ⌝ }
