@@ -1,13 +1,12 @@
 //! The key on the bench: a whole key on a pipe, with the line protocol of the program `bench`.
 
-use std::io::{self, BufRead, Read, Write};
-
 use crate::apdu;
 use crate::cbor;
 use crate::command::{self, Fault};
 use crate::key::{Answer, Key, Message, Refusal, Transaction};
 use crate::line::{self, Line, LONGEST_LINE, MESSAGE_BUFFER, REPLY_BUFFER};
 use crate::packet::{LONGEST, PACKET};
+use crate::pipe::{no_line, OnPipe};
 
 /// A key and the buffers that are lent to it.
 #[derive(Clone, Debug)]
@@ -35,26 +34,13 @@ impl Default for Bench {
     }
 }
 
-impl Bench {
-    /// Answers the lines of `input` until it ends, each as soon as it is read.
-    pub fn serve(&mut self, mut input: impl BufRead, mut output: impl Write) -> io::Result<()> {
-        let mut line = Vec::new();
-        let mut answer = Vec::new();
-        while read_line(&mut input, &mut line)? {
-            self.line(&line, &mut answer);
-            output.write_all(&answer)?;
-            output.flush()?;
-            answer.clear();
-        }
-        Ok(())
-    }
+impl OnPipe for Bench {
+    const LONGEST_LINE: usize = LONGEST_LINE;
 
-    /// Answers one line, which stands without its end.
-    pub fn line(&mut self, line: &[u8], out: &mut Vec<u8>) {
+    fn line(&mut self, line: &[u8], out: &mut Vec<u8>) {
         self.lines += 1;
         let Some(line) = line::read(line) else {
-            out.extend_from_slice(format!("? line {}\n", self.lines).as_bytes());
-            return;
+            return no_line(self.lines, out);
         };
         let reply = &mut self.reply[..self.reply_lent];
         let message = &mut self.message[..self.message_lent];
@@ -86,6 +72,12 @@ impl Bench {
         }
     }
 
+    fn state_line(&self) -> Option<String> {
+        Some(state(&self.key))
+    }
+}
+
+impl Bench {
     /// A call's answer: `ok`, the ticket it reports and the packet it wrote, or its refusal.
     fn call(&self, answer: Result<Answer, Refusal>, out: &mut Vec<u8>) {
         match answer {
@@ -180,22 +172,6 @@ fn apdu(message: &[u8], out: &mut Vec<u8>) {
 /// What a message or an item gets that is refused: the status, and where it is wrong.
 fn refused(fault: Fault) -> String {
     format!("status {:02x} at {}\n", fault.status as u8, fault.place)
-}
-
-/// Reads the next line without its end; false at the end of input. Of a line that is too long it
-/// keeps enough to tell, and passes over the rest.
-fn read_line(input: &mut impl BufRead, line: &mut Vec<u8>) -> io::Result<bool> {
-    line.clear();
-    let most = LONGEST_LINE as u64 + 1;
-    if input.by_ref().take(most).read_until(b'\n', line)? == 0 {
-        return Ok(false);
-    }
-    if line.last() == Some(&b'\n') {
-        line.pop();
-    } else if line.len() > LONGEST_LINE {
-        input.skip_until(b'\n')?;
-    }
-    Ok(true)
 }
 
 #[cfg(test)]

@@ -83,6 +83,11 @@ impl<'a> Reader<'a> {
         Reader { bytes, at }
     }
 
+    /// The place of the next byte.
+    pub fn place(&self) -> usize {
+        self.at
+    }
+
     /// Every byte is read; if not, the breach is at the first that is left over.
     pub fn finish(self) -> Result<(), Breach> {
         if self.at < self.bytes.len() {

@@ -4,8 +4,8 @@
 use crate::cbor::{Breach, Item, Kind, Reader, LEVELS};
 use crate::packet::LONGEST;
 
-const MAKE_CREDENTIAL: u8 = 0x01;
-const GET_ASSERTION: u8 = 0x02;
+pub const MAKE_CREDENTIAL: u8 = 0x01;
+pub const GET_ASSERTION: u8 = 0x02;
 const GET_INFO: u8 = 0x04;
 
 /// The place of the command byte, and of what is wrong with a message as a whole.
@@ -76,6 +76,11 @@ pub fn check(message: &[u8]) -> Result<Good<'_>, Fault> {
     if message.len() > LONGEST {
         return Err(Status::InvalidLength.at(COMMAND));
     }
+    check_of_any_size(message)
+}
+
+/// Checks a command that can be longer than any message.
+pub fn check_of_any_size(message: &[u8]) -> Result<Good<'_>, Fault> {
     match *message {
         [] => Err(Status::InvalidLength.at(COMMAND)),
         [GET_INFO] => Ok(Good { hash: &[] }),

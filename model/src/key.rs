@@ -70,7 +70,7 @@ pub enum Answer {
     Request(Ticket),
 }
 
-/// Why a call is turned away; each has its number in document 01.
+/// Why a call is turned away; each has its number in document 01, and the last in request 2026-04.
 #[derive(Clone, Copy, Debug, PartialEq, Eq)]
 #[repr(u8)]
 pub enum Refusal {
@@ -81,6 +81,7 @@ pub enum Refusal {
     Ticket = 5,
     Delivery = 6,
     State = 7,
+    TooLong = 8,
 }
 
 impl Refusal {

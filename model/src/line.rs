@@ -32,15 +32,9 @@ pub enum Line {
 
 /// Reads a line without its end; `None` where it is none of the protocol's.
 pub fn read(line: &[u8]) -> Option<Line> {
-    if line.len() > LONGEST_LINE {
-        return None;
-    }
-    if line.is_empty() || line.starts_with(b"#") {
-        return Some(Line::Nothing);
-    }
-    let line = std::str::from_utf8(line).ok()?;
-    let words: Vec<&str> = line.split(' ').collect();
+    let words = words(line, LONGEST_LINE)?;
     Some(match words[..] {
+        [] => Line::Nothing,
         ["packet", ref hex @ ..] => Line::Packet(hex_up_to(LONGEST_HEX, hex)?),
         ["time", elapsed] => Line::Time(number(elapsed)?),
         ["deliver", ticket, ref hex @ ..] => {
@@ -63,6 +57,18 @@ pub fn read(line: &[u8]) -> Option<Line> {
         ["show"] => Line::Show,
         _ => return None,
     })
+}
+
+/// The words of a line of at most `longest` bytes; none where the line is to be passed over.
+pub(crate) fn words(line: &[u8], longest: usize) -> Option<Vec<&str>> {
+    if line.len() > longest {
+        return None;
+    }
+    if line.is_empty() || line.starts_with(b"#") {
+        return Some(Vec::new());
+    }
+    let line = std::str::from_utf8(line).ok()?;
+    Some(line.split(' ').collect())
 }
 
 fn read_transaction(words: &[&str]) -> Option<Transaction> {
@@ -93,17 +99,17 @@ fn read_message(holder: &str, command: &str, length: &str) -> Option<Message> {
 }
 
 /// A decimal number that fits its place.
-fn number<T: std::str::FromStr>(word: &str) -> Option<T> {
+pub(crate) fn number<T: std::str::FromStr>(word: &str) -> Option<T> {
     let is_decimal = word.bytes().all(|byte| byte.is_ascii_digit());
     word.parse().ok().filter(|_| is_decimal)
 }
 
-fn number_up_to(most: usize, word: &str) -> Option<usize> {
+pub(crate) fn number_up_to(most: usize, word: &str) -> Option<usize> {
     number(word).filter(|&value| value <= most)
 }
 
 /// The bytes of the last word of a line, which can be missing, with the space before it or without.
-fn optional_hex(words: &[&str]) -> Option<Vec<u8>> {
+pub(crate) fn optional_hex(words: &[&str]) -> Option<Vec<u8>> {
     match *words {
         [] => Some(Vec::new()),
         [hex] => decode(hex),

@@ -6,6 +6,7 @@ mod common;
 
 use common::{agree, hex};
 use model::apdu::{self, Good};
+use model::bench::Bench;
 use model::packet::{cut, Channel, CANCEL, LONGEST, MSG, PACKET};
 use model::trial::apdus::{self, Apdu, FAULTS, HEADER};
 use model::trial::cases::Cases;
@@ -20,7 +21,7 @@ type Known = (Vec<u8>, Option<u16>);
 
 /// The model answers as expected, and the program as the model.
 fn hold(cases: Cases) {
-    assert_eq!(cases.wrong_answer(), None);
+    assert_eq!(cases.wrong_answer::<Bench>(), None);
     agree(cases.lines);
 }
 

@@ -4,6 +4,7 @@
 mod common;
 
 use common::{agree, hex};
+use model::trial::parameters::{algorithm_lists, minus, supported, values};
 use model::trial::tree::{Entries, Tree};
 
 const MAKE_CREDENTIAL: u8 = 0x01;
@@ -29,36 +30,6 @@ const EDGES: [u64; 13] = [
 fn check(command: u8, entries: Entries) -> String {
     let message = [vec![command], Tree::Map(entries).encoded()].concat();
     format!("check {}", hex(&message))
-}
-
-fn algorithm(alg: Tree, kind: Tree) -> Tree {
-    Tree::Map(vec![(Tree::text("alg"), alg), (Tree::text("type"), kind)])
-}
-
-fn minus(argument: u64) -> Tree {
-    Tree::Number(1, argument)
-}
-
-/// The only entry of key 4 that the key supports.
-fn supported() -> Tree {
-    algorithm(minus(6), Tree::text("public-key"))
-}
-
-/// A value of each kind, and hashes of about the right length.
-fn values() -> Vec<Tree> {
-    vec![
-        Tree::unsigned(0),
-        minus(0),
-        Tree::bytes(vec![]),
-        Tree::bytes(vec![0xAB; 31]),
-        Tree::bytes(vec![0xAB; 32]),
-        Tree::bytes(vec![0xAB; 33]),
-        Tree::text("text"),
-        Tree::Array(vec![]),
-        Tree::Array(vec![supported()]),
-        Tree::Map(vec![]),
-        Tree::Raw(vec![0xF5]),
-    ]
 }
 
 /// A command's known keys with good values, each of its place.
@@ -106,59 +77,12 @@ fn every_pair_of_parameters() {
 
 #[test]
 fn every_entry_of_key_4() {
-    let algs = [
-        None,
-        Some(minus(6)),
-        Some(minus(5)),
-        Some(minus(7)),
-        Some(Tree::unsigned(6)),
-        Some(Tree::unsigned(249)),
-        Some(minus(248)),
-        Some(minus(262)),
-        Some(minus(0x1_0006)),
-        Some(Tree::unsigned(0xFFFF_FFF9)),
-        Some(minus(0x1_0000_0006)),
-        Some(Tree::unsigned(u64::MAX - 6)),
-        Some(Tree::text("-7")),
-        Some(Tree::bytes(vec![0x26])),
-        Some(Tree::Array(vec![minus(6)])),
-        Some(Tree::Raw(vec![0xF6])),
-    ];
-    let kinds = [
-        None,
-        Some(Tree::text("public-key")),
-        Some(Tree::text("public-ke")),
-        Some(Tree::text("public-keys")),
-        Some(Tree::text("")),
-        Some(Tree::bytes(b"public-key".to_vec())),
-        Some(Tree::unsigned(0)),
-    ];
-    let neighbours = [
-        supported(),
-        algorithm(minus(256), Tree::text("public-key")),
-        algorithm(Tree::text(""), Tree::text("public-key")),
-        Tree::unsigned(0),
-        Tree::Map(vec![]),
-    ];
     let mut lines = Vec::new();
-    let mut check_list = |list: Vec<Tree>| {
+    for list in algorithm_lists() {
         let mut values = good_parameters(MAKE_CREDENTIAL);
         values[3] = Tree::Array(list);
         let entries = (1..).map(Tree::unsigned).zip(values);
         lines.push(check(MAKE_CREDENTIAL, entries.collect()));
-    };
-    for alg in &algs {
-        for kind in &kinds {
-            let entries = [("alg", alg), ("type", kind)]
-                .into_iter()
-                .filter_map(|(key, value)| Some((Tree::text(key), value.clone()?)));
-            let entry = Tree::Map(entries.collect());
-            check_list(vec![entry.clone()]);
-            for neighbour in &neighbours {
-                check_list(vec![neighbour.clone(), entry.clone()]);
-                check_list(vec![entry.clone(), neighbour.clone()]);
-            }
-        }
     }
     agree(lines);
 }

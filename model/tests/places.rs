@@ -5,6 +5,7 @@
 mod common;
 
 use common::{agree, hex};
+use model::bench::Bench;
 use model::packet::LONGEST;
 use model::trial::breaches::{self, sound, Sound};
 use model::trial::cases::Cases;
@@ -43,7 +44,7 @@ impl Places {
 
     /// The model answers as expected, and the program as the model.
     fn hold(self) {
-        assert_eq!(self.cases.wrong_answer(), None);
+        assert_eq!(self.cases.wrong_answer::<Bench>(), None);
         agree(self.cases.lines);
     }
 

@@ -11,6 +11,7 @@ use model::bench::Bench;
 use model::key::{Transaction, MOST_CHANNELS};
 use model::line::{self, Line};
 use model::packet::{part_carried, Packet, BROADCAST, INIT, PACKET};
+use model::pipe::OnPipe;
 use model::trial::program::Outcome;
 use model::trial::run::{compare, Difference, Done, Enough};
 

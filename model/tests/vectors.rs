@@ -8,6 +8,7 @@ use std::fs;
 use std::path::{Path, PathBuf};
 
 use model::bench::Bench;
+use model::pipe::OnPipe;
 use model::trial::program::Program;
 
 /// The scripts of a folder, by the ending of their names.

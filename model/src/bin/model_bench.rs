@@ -3,6 +3,7 @@
 use std::io;
 
 use model::bench::Bench;
+use model::pipe::OnPipe;
 
 fn main() -> io::Result<()> {
     Bench::default().serve(io::stdin().lock(), io::stdout().lock())

@@ -1,6 +1,7 @@
 //! Lines whose answers are known beforehand, and not from the model.
 
 use super::script::Script;
+use crate::pipe::OnPipe;
 
 /// Lines and the answers they have to get.
 #[derive(Clone, Debug, Default)]
@@ -17,8 +18,8 @@ impl Cases {
     }
 
     /// The first line to which the model does not answer as expected, with both answers.
-    pub fn wrong_answer(&self) -> Option<String> {
-        let script = Script::answered(self.lines.clone());
+    pub fn wrong_answer<Model: OnPipe>(&self) -> Option<String> {
+        let script = Script::answered::<Model>(self.lines.clone());
         for ((line, expected), answer) in self.lines.iter().zip(&self.answers).zip(script.each()) {
             let answer = String::from_utf8_lossy(answer);
             if answer != *expected {

@@ -95,7 +95,7 @@ fn with_parameters(random: &mut Random) -> Vec<u8> {
 }
 
 /// A MakeCredential or GetAssertion that has no fault, of any length.
-fn sound(random: &mut Random) -> Command {
+pub fn sound(random: &mut Random) -> Command {
     let byte = random.pick(&[MAKE_CREDENTIAL, GET_ASSERTION]);
     let entries = if byte == MAKE_CREDENTIAL {
         make_credential(random)
@@ -123,7 +123,7 @@ impl Command {
 }
 
 /// One or two faults of the parameters; the canonical form stays.
-fn parameter_faults(random: &mut Random, command: &mut Command) {
+pub fn parameter_faults(random: &mut Random, command: &mut Command) {
     for _ in 0..=random.below(2) {
         let of_values = random.pick(&faults::OF_VALUES);
         let fault = random.pick(&[
@@ -260,13 +260,8 @@ fn pad(random: &mut Random, command: &mut Command, size: usize) {
         _ => Tree::text("padding"),
     };
     let bare = 1 + Tree::Map(command.entries.clone()).encoded().len() + key.encoded().len();
-    // The string's own head is 1, 2 or 3 bytes long.
-    let length = match size.saturating_sub(bare) {
-        0 => return,
-        room @ 1..=24 => room - 1,
-        room @ 25..=257 => room - 2,
-        room => room - 3,
-    };
-    let major = random.pick(&[BYTES, TEXT]);
-    command.add(key, item::string(random, major, length));
+    if let Some(room @ 1..) = size.checked_sub(bare) {
+        let major = random.pick(&[BYTES, TEXT]);
+        command.add(key, item::string_in(random, major, room));
+    }
 }

@@ -54,6 +54,17 @@ pub fn string(random: &mut Random, major: u8, length: usize) -> Tree {
     Tree::String(major, content(random, major, length))
 }
 
+/// A byte or text string that takes `room` bytes, which is not 0, or one byte less where none does.
+pub fn string_in(random: &mut Random, major: u8, room: usize) -> Tree {
+    // The string's own head is 1, 2 or 3 bytes long.
+    let length = match room {
+        0..=24 => room - 1,
+        25..=257 => room - 2,
+        _ => room - 3,
+    };
+    string(random, major, length)
+}
+
 /// The content of a byte string is any bytes, that of a text string is good text.
 fn content(random: &mut Random, major: u8, length: usize) -> Vec<u8> {
     if major == TEXT {

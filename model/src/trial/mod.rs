@@ -6,7 +6,9 @@
 //! put one thing that is wrong at a known place, and [`apdus`] what is wrong with an APDU, so that
 //! the model's own answer can be tried too: [`cases`] are lines with answers that are known so.
 //!
-//! [`calls`] plays the same scripts to the calls of a firmware, without the bench.
+//! [`calls`] plays the same scripts to the calls of a firmware, without the bench. [`viewer`] writes
+//! scripts for the viewer's end; [`parameters`] are what the tables of both ends try. In a
+//! [`session`] a line can hang on the answers before it.
 
 use crate::packet::LONGEST;
 
@@ -18,16 +20,19 @@ pub mod commands;
 mod events;
 pub mod faults;
 pub mod item;
+pub mod parameters;
 pub mod program;
 pub mod progress;
 pub mod random;
 pub mod run;
 pub mod script;
+pub mod session;
 pub mod shrink;
 pub(crate) mod states;
 pub mod tally;
 pub mod text;
 pub mod tree;
+pub mod viewer;
 pub mod writer;
 
 /// Message lengths around which packets are added.

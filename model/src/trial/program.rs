@@ -1,9 +1,10 @@
-//! The real program `bench`.
+//! The real programs `bench` and `viewer_bench`.
 //!
-//! `BENCH` names it; without it, it is `../target/bin/bench` beside this package, where
-//! `rt check bench` at the top of the repository puts it. It is a program for x86-64. On another
-//! processor `BENCH_RUNNER` holds the words to put before it; `rt` itself runs it with the emulator,
-//! the loader and the C library of its kit:
+//! `BENCH` names the first; without it, it is `../target/bin/bench` beside this package, where
+//! `rt check bench` at the top of the repository puts it. `VIEWER_BENCH` and `rt check viewer_bench`
+//! are the same for the second. They are programs for x86-64. On another processor `BENCH_RUNNER`
+//! holds the words to put before them; `rt` itself runs them with the emulator, the loader and the
+//! C library of its kit:
 //!
 //! ```sh
 //! kit=$(dirname "$(dirname "$(readlink -f "$(command -v rt)")")")/on/$(uname -m)/toolchain
@@ -36,16 +37,25 @@ pub struct Program {
 }
 
 impl Program {
-    /// Finds the program, or says how to make it.
+    /// Finds `bench`, or says how to make it.
     pub fn find() -> Result<Program, String> {
-        let path = env::var_os("BENCH").map_or_else(
-            || Path::new(env!("CARGO_MANIFEST_DIR")).join("../target/bin/bench"),
-            PathBuf::from,
-        );
+        Program::find_named("bench", "BENCH")
+    }
+
+    /// Finds `viewer_bench`, or says how to make it.
+    pub fn find_viewer() -> Result<Program, String> {
+        Program::find_named("viewer_bench", "VIEWER_BENCH")
+    }
+
+    fn find_named(name: &str, variable: &str) -> Result<Program, String> {
+        let made_at = Path::new(env!("CARGO_MANIFEST_DIR"))
+            .join("../target/bin")
+            .join(name);
+        let path = env::var_os(variable).map_or(made_at, PathBuf::from);
         if !path.is_file() {
             return Err(format!(
-                "there is no program at {}: run `rt check bench` at the top of the repository, \
-                 or set BENCH to the program",
+                "there is no program at {}: run `rt check {name}` at the top of the repository, \
+                 or set {variable} to the program",
                 path.display()
             ));
         }

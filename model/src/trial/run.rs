@@ -1,4 +1,4 @@
-//! Runs scripts through the model and another key, and compares every answer.
+//! Runs scripts through the model and another program, and compares every answer.
 
 use std::env;
 use std::fmt;
@@ -12,6 +12,8 @@ use super::script::Script;
 use super::shrink;
 use super::tally::Tally;
 use super::writer::{events_of, write_script};
+use crate::bench::Bench;
+use crate::pipe::OnPipe;
 
 /// How many bytes of an answer a report shows before and after a difference.
 const SHOWN_BEFORE: usize = 100;
@@ -73,7 +75,7 @@ pub struct Done {
     pub tally: Tally,
 }
 
-/// Two keys that do not agree.
+/// Two programs that do not agree.
 #[derive(Clone, Debug)]
 pub struct Difference {
     /// The seed whose first script shows it, where it was a random one.
@@ -98,11 +100,26 @@ impl fmt::Display for Difference {
     }
 }
 
+/// Writes the script of a seed, with the model's answers, and says what its events reach.
+pub type Write<'a> = dyn Fn(u64) -> (Script, Tally) + Sync + 'a;
+
+/// Compares a key with the model on the scripts of one seed after another.
+pub fn compare(
+    subject: &Subject,
+    seed: u64,
+    enough: Enough,
+    progress: &(dyn Fn(&Done) + Sync),
+) -> Result<Done, Box<Difference>> {
+    let write = |seed| write_script(seed, events_of(seed));
+    compare_scripts::<Bench>(subject, &write, seed, enough, progress)
+}
+
 /// Runs the scripts of one seed after another until it is enough, and tells `progress` after each.
 /// The scripts are spread over the processors; of the differences found, the first seed's is
 /// reported, so that the same seed always gives the same report.
-pub fn compare(
+pub fn compare_scripts<Model: OnPipe>(
     subject: &Subject,
+    write: &Write,
     seed: u64,
     enough: Enough,
     progress: &(dyn Fn(&Done) + Sync),
@@ -115,7 +132,7 @@ pub fn compare(
     let work = || loop {
         let number = next.fetch_add(1, Ordering::Relaxed);
         let seed = seed_of(number);
-        let (script, tally) = write_script(seed, events_of(seed));
+        let (script, tally) = write(seed);
         let differs = first_difference(&script, &subject(&script.lines)).is_some();
         let mut state = state.lock().unwrap_or_else(|broken| broken.into_inner());
         let (done, differing) = &mut *state;
@@ -146,17 +163,24 @@ pub fn compare(
         None => Ok(done),
         Some((number, lines)) => {
             let seed = Some(seed_of(number));
-            Err(Box::new(shortest_difference(subject, seed, lines)))
+            Err(Box::new(shortest_difference::<Model>(subject, seed, lines)))
         }
     }
 }
 
 /// Compares the answers to one script of these lines.
-pub fn compare_lines(subject: &Subject, lines: Vec<String>) -> Result<(), Box<Difference>> {
-    let script = Script::answered(lines);
+pub fn compare_lines<Model: OnPipe>(
+    subject: &Subject,
+    lines: Vec<String>,
+) -> Result<(), Box<Difference>> {
+    let script = Script::answered::<Model>(lines);
     match first_difference(&script, &subject(&script.lines)) {
         None => Ok(()),
-        Some(_) => Err(Box::new(shortest_difference(subject, None, script.lines))),
+        Some(_) => Err(Box::new(shortest_difference::<Model>(
+            subject,
+            None,
+            script.lines,
+        ))),
     }
 }
 
@@ -210,13 +234,18 @@ fn around(answers: &[u8], at: usize) -> String {
     line
 }
 
-fn shortest_difference(subject: &Subject, seed: Option<u64>, lines: Vec<String>) -> Difference {
+fn shortest_difference<Model: OnPipe>(
+    subject: &Subject,
+    seed: Option<u64>,
+    lines: Vec<String>,
+) -> Difference {
     let found_in = |lines: &[String]| {
-        let script = Script::answered(lines.to_vec());
+        let script = Script::answered::<Model>(lines.to_vec());
         first_difference(&script, &subject(lines))
     };
     let upto = found_in(&lines).map_or(lines.len(), |found| found.line + 1);
-    let lines = shrink::shortest(lines[..upto].to_vec(), |lines| found_in(lines).is_some());
+    let lines =
+        shrink::shortest::<Model>(lines[..upto].to_vec(), |lines| found_in(lines).is_some());
     let (model, program) = match found_in(&lines) {
         Some(found) => (found.model, found.program),
         None => (

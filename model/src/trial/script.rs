@@ -1,6 +1,6 @@
-//! A script for the bench and the answers it has to get.
+//! A script for a program on a pipe and the answers it has to get.
 
-use crate::bench::Bench;
+use crate::pipe::OnPipe;
 
 /// Lines and what the model answers to each.
 #[derive(Clone, Debug, Default)]
@@ -13,11 +13,11 @@ pub struct Script {
 
 impl Script {
     /// These lines, answered by a fresh model.
-    pub fn answered(lines: Vec<String>) -> Script {
-        let mut bench = Bench::default();
+    pub fn answered<Model: OnPipe>(lines: Vec<String>) -> Script {
+        let mut model = Model::default();
         let mut script = Script::default();
         for line in lines {
-            script.push(&mut bench, line);
+            script.push(&mut model, line);
         }
         script
     }
@@ -37,9 +37,9 @@ impl Script {
     }
 
     /// Adds a line and gives the model's answer to it.
-    pub fn push(&mut self, bench: &mut Bench, line: String) -> &[u8] {
+    pub fn push(&mut self, model: &mut impl OnPipe, line: String) -> &[u8] {
         let start = self.answers.len();
-        bench.line(line.as_bytes(), &mut self.answers);
+        model.line(line.as_bytes(), &mut self.answers);
         self.ends.push(self.answers.len());
         self.lines.push(line);
         &self.answers[start..]

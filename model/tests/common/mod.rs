@@ -1,5 +1,6 @@
 //! What the table tests share.
 
+use model::bench::Bench;
 pub use model::line::hex;
 use model::trial::program::Program;
 use model::trial::run::compare_lines;
@@ -11,7 +12,7 @@ pub fn program() -> Program {
 /// Runs a script through the real program and the model.
 pub fn agree(lines: Vec<String>) {
     let program = program();
-    if let Err(difference) = compare_lines(&|lines| program.run(lines), lines) {
+    if let Err(difference) = compare_lines::<Bench>(&|lines| program.run(lines), lines) {
         panic!("{difference}");
     }
 }

@@ -1,6 +1,7 @@
 //! Other rules for an APDU.
 
 use model::line::{self, Line};
+use model::pipe::OnPipe;
 use model::trial::run::{Difference, Done};
 
 use super::compared;

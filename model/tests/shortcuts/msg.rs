@@ -4,6 +4,7 @@ use model::bench::Bench;
 use model::key::{Key, Message, Transaction, MOST_CHANNELS};
 use model::line::{self, Line};
 use model::packet::{Channel, Packet, CANCEL, INIT, MSG};
+use model::pipe::OnPipe;
 
 use super::{caught, packet_of, reply_instead, SHORT};
 
