@@ -4,8 +4,10 @@
 
 #include <string.h>
 
-const char *const slot_names[SLOTS] = { "block", "input", "reply", "message" };
-const char *const call_names[KINDS] = { "bq_fresh", "bq_packet", "bq_time", "bq_deliver", "bq_fetch", "bq_check" };
+const char *const slot_names[SLOTS] = { "block", "input", "reply", "message", "part 1", "part 2", "part 3", "part 4", "part 5",
+                                        "part 6", "part 7", "part 8", "part 9" };
+const char *const call_names[KINDS] = { "bq_fresh", "bq_packet", "bq_time", "bq_deliver", "bq_fetch", "bq_check", "bqv_make_credential",
+                                        "bqv_get_assertion", "bqv_cut", "bqv_await", "bqv_take", "bqv_apart", "bqv_first", "bqv_entry" };
 
 enum { NO, READ, WRITE };
 
@@ -16,6 +18,13 @@ static const uint8_t uses[KINDS][SLOTS] = {
     [DELIVER] = { WRITE, READ, NO, WRITE },
     [FETCH] = { WRITE, NO, WRITE, READ },
     [CHECK] = { NO, READ, NO, NO },
+    [MAKE] = { NO, NO, NO, WRITE, READ, READ, READ, READ, READ, READ, READ, READ, READ },
+    [GET] = { NO, NO, NO, WRITE, READ, READ, READ, READ, READ, READ, READ },
+    [CUT] = { NO, READ, WRITE, NO },
+    [TAKE] = { NO, READ, NO, WRITE },
+    [APART] = { NO, READ, NO, NO },
+    [FIRST] = { NO, READ, NO, NO },
+    [ENTRY] = { NO, READ, NO, NO },
 };
 
 /* One in so many calls is made again. */
@@ -40,10 +49,29 @@ uint64_t calls_made(void)
     return calls;
 }
 
-const char *call_being_made(const struct host **h)
+enum kind call_being_made(const struct host **h)
 {
     *h = caller;
-    return current == KINDS ? NULL : call_names[current];
+    return current;
+}
+
+/* A command from parts: by the header's helper, or by the call itself where bits are given that are no key's. */
+static uint64_t answer_parts(enum kind kind, const struct host *h, uint8_t *const at[SLOTS])
+{
+    size_t message = h->buffers[MESSAGE].length;
+    unsigned keys = commands[kind - MAKE].keys;
+    bqv_part p[BQV_MAKE_PARTS];
+
+    for (unsigned i = 0; i < keys; i++)
+        p[i] = (bqv_part) { .bytes = at[PART + i], .size = h->buffers[PART + i].length, .given = h->given >> (i + 1) & 1 };
+    if ((h->given & 1) == 0 && h->given >> (keys + 1) == 0)
+        return kind == MAKE ? bqv_make(p, at[MESSAGE], message) : bqv_get(p, at[MESSAGE], message);
+    if (kind == MAKE)
+        return bqv_make_credential(h->given, p[0].bytes, p[0].size, p[1].bytes, p[1].size, p[2].bytes, p[2].size, p[3].bytes, p[3].size,
+                                   p[4].bytes, p[4].size, p[5].bytes, p[5].size, p[6].bytes, p[6].size, p[7].bytes, p[7].size, p[8].bytes,
+                                   p[8].size, at[MESSAGE], message);
+    return bqv_get_assertion(h->given, p[0].bytes, p[0].size, p[1].bytes, p[1].size, p[2].bytes, p[2].size, p[3].bytes, p[3].size,
+                             p[4].bytes, p[4].size, p[5].bytes, p[5].size, p[6].bytes, p[6].size, at[MESSAGE], message);
 }
 
 static uint64_t answer(enum kind kind, const struct host *h, uint8_t *const at[SLOTS])
@@ -62,23 +90,39 @@ static uint64_t answer(enum kind kind, const struct host *h, uint8_t *const at[S
         return bq_deliver(at[BLOCK], block, h->number, at[INPUT], input, at[MESSAGE], message);
     case FETCH:
         return bq_fetch(at[BLOCK], block, at[REPLY], reply, at[MESSAGE], message);
-    default:
+    case CHECK:
         return bq_check(at[INPUT], input);
+    case CUT:
+        return bqv_cut(h->number, h->command, at[INPUT], input, h->place, at[REPLY], reply);
+    case AWAIT:
+        return bqv_await(h->number, h->command);
+    case TAKE:
+        return bqv_take(h->word, at[INPUT], input, at[MESSAGE], message);
+    case APART:
+        return bqv_apart(at[INPUT], input);
+    case FIRST:
+        return bqv_first(at[INPUT], input);
+    case ENTRY:
+        return bqv_entry(at[INPUT], input, h->place);
+    default:
+        return answer_parts(kind, h, at);
     }
 }
 
+/* Where no parts are lent, their places are left alone: a look around all of them takes its time. */
 static uint64_t lend_and_answer(enum kind kind, const struct host *h, uint8_t *at[SLOTS])
 {
+    int slots = is_lent(kind, PART) ? SLOTS : KEY_SLOTS;
     uint64_t word;
 
-    for (int slot = 0; slot < SLOTS; slot++)
+    for (int slot = 0; slot < slots; slot++)
         at[slot] = is_lent(kind, slot) ? lent_place(slot, h->buffers[slot].bytes, h->buffers[slot].length) : lent_place(slot, NULL, 0);
     word = answer(kind, h, at);
-    lent_check();
+    lent_check(slots);
     return word;
 }
 
-/* Nothing is kept but what stands in the block, so the same call comes to the same. */
+/* Nothing is kept but what stands in the block, or in the reply's word, so the same call comes to the same. */
 static void make_again(enum kind kind, const struct host *before, const struct host *after, uint64_t word)
 {
     uint8_t *at[SLOTS];
@@ -102,7 +146,10 @@ uint64_t make_call(enum kind kind, struct host *h)
     if (++calls % AGAIN == 0)
         before = *h;
     word = lend_and_answer(kind, h, at);
-    rules_check(kind, h, at, word);
+    if (kind < KEY_KINDS)
+        rules_check(kind, h, at, word);
+    else
+        viewer_rules_check(kind, h, at, word);
     for (int slot = 0; slot < SLOTS; slot++)
         if (is_writable(kind, slot) && h->buffers[slot].length > 0)
             memcpy(h->buffers[slot].bytes, at[slot], h->buffers[slot].length);

@@ -43,3 +43,10 @@ void chance_fill(uint8_t *bytes, size_t length)
     for (size_t i = 0; i < length; i++)
         bytes[i] = (uint8_t)chance_any();
 }
+
+size_t chance_near(size_t needed, size_t most)
+{
+    size_t length = chance_one_in(2) ? needed - 1 + chance_below(3) : chance_below((uint32_t)most + 1);
+
+    return chance_one_in(8) ? 0 : length;
+}

@@ -6,24 +6,16 @@
 
 /* ---- lengths */
 
-/* A length near one that counts, or any. */
-static size_t near(size_t needed, size_t most)
-{
-    size_t length = chance_one_in(2) ? needed - 1 + chance_below(3) : chance_below((uint32_t)most + 1);
-
-    return chance_one_in(8) ? 0 : length;
-}
-
 static void damage_lengths(struct host *h)
 {
     if (chance_one_in(3))
-        h->buffers[BLOCK].length = near(BQ_BLOCK_SIZE, 64);
+        h->buffers[BLOCK].length = chance_near(BQ_BLOCK_SIZE, 64);
     if (chance_one_in(3))
-        h->buffers[INPUT].length = near(BQ_PACKET_SIZE, 128);
+        h->buffers[INPUT].length = chance_near(BQ_PACKET_SIZE, 128);
     if (chance_one_in(3))
-        h->buffers[REPLY].length = near(BQ_PACKET_SIZE, 128);
+        h->buffers[REPLY].length = chance_near(BQ_PACKET_SIZE, 128);
     if (chance_one_in(3))
-        h->buffers[MESSAGE].length = near(BQ_MESSAGE_SIZE, LARGEST);
+        h->buffers[MESSAGE].length = chance_near(BQ_MESSAGE_SIZE, LARGEST);
 }
 
 /* ---- blocks */
@@ -130,7 +122,7 @@ static enum kind any_call(struct host *h)
     } else if (kind == PACKET) {
         visitor_packet(&s, input);
     } else {
-        input->length = near(chance_one_in(2) ? 1 : BQ_MESSAGE_SIZE, LARGEST);
+        input->length = chance_near(chance_one_in(2) ? 1 : BQ_MESSAGE_SIZE, LARGEST);
     }
     return kind;
 }
@@ -140,7 +132,7 @@ static void check_call(struct host *h)
     struct buffer *input = &h->buffers[INPUT];
 
     if (chance_one_in(8)) {
-        input->length = chance_one_in(4) ? near(BQ_MESSAGE_SIZE, LARGEST) : near(40, 100);
+        input->length = chance_one_in(4) ? chance_near(BQ_MESSAGE_SIZE, LARGEST) : chance_near(40, 100);
         chance_fill(input->bytes, input->length < 100 ? input->length : 100);
         input->bytes[0] &= 0x07;
     } else {
@@ -153,7 +145,7 @@ static void check_call(struct host *h)
 void damage_call(struct host *h)
 {
     uint8_t block[BQ_BLOCK_SIZE];
-    size_t lengths[SLOTS];
+    size_t lengths[KEY_SLOTS];
     struct state s;
     enum kind kind;
 
@@ -162,7 +154,7 @@ void damage_call(struct host *h)
         return;
     }
     memcpy(block, h->buffers[BLOCK].bytes, sizeof block);
-    for (int slot = 0; slot < SLOTS; slot++)
+    for (int slot = 0; slot < KEY_SLOTS; slot++)
         lengths[slot] = h->buffers[slot].length;
     if (chance_one_in(2))
         damage_block(h->buffers[BLOCK].bytes);
@@ -170,7 +162,7 @@ void damage_call(struct host *h)
     if (chance_one_in(2))
         damage_lengths(h);
     make_call(kind, h);
-    for (int slot = 0; slot < SLOTS; slot++)
+    for (int slot = 0; slot < KEY_SLOTS; slot++)
         h->buffers[slot].length = lengths[slot];
     if (!block_read(h->buffers[BLOCK].bytes, BQ_BLOCK_SIZE, &s) || !in_order(&s))
         memcpy(h->buffers[BLOCK].bytes, block, sizeof block);

@@ -1,4 +1,4 @@
-/* The program: plays scripts of the bench through the C calls, or makes random calls. */
+/* The program: plays scripts of the bench through the C calls, makes random calls, or has a viewer talk to the key. */
 
 #include "host.h"
 
@@ -28,31 +28,36 @@ static void print_bytes(const char *name, const struct buffer *buffer, size_t mo
 }
 
 /* What the call was given, so that it can be made again. */
-static void print_call(const struct host *h)
+static void print_call(enum kind kind, const struct host *h)
 {
     for (int slot = 0; slot < SLOTS; slot++)
-        print_bytes(slot_names[slot], &h->buffers[slot], BQ_PACKET_SIZE);
-    fprintf(stderr, "  milliseconds or ticket: %" PRIu32 "\n", h->number);
+        if (is_lent(kind, slot))
+            print_bytes(slot_names[slot], &h->buffers[slot], BQ_PACKET_SIZE);
+    if (kind < KEY_KINDS)
+        fprintf(stderr, "  milliseconds or ticket: %" PRIu32 "\n", h->number);
+    else
+        fprintf(stderr, "  channel: %" PRIu32 ", command: %u, given: %x, the reply's word: %016" PRIx64 ", packet or place: %zu\n",
+                h->number, h->command, h->given, h->word, h->place);
 }
 
 void fail(const char *form, ...)
 {
     const struct host *h;
-    const char *call = call_being_made(&h);
+    enum kind call = call_being_made(&h);
     va_list values;
 
     fflush(stdout);
     fputs("host: ", stderr);
     if (subject != NULL)
         fprintf(stderr, "%s %" PRIu64 ": ", subject, subject_number);
-    if (call != NULL)
-        fprintf(stderr, "call %" PRIu64 ", %s: ", calls_made(), call);
+    if (call != KINDS)
+        fprintf(stderr, "call %" PRIu64 ", %s: ", calls_made(), call_names[call]);
     va_start(values, form);
     vfprintf(stderr, form, values);
     va_end(values);
     fputc('\n', stderr);
-    if (call != NULL)
-        print_call(h);
+    if (call != KINDS)
+        print_call(call, h);
     _exit(1); /* it may be called where a signal was caught */
 }
 
@@ -75,7 +80,9 @@ int main(int argc, char **argv)
         play(argv[2], argv[3]);
     else if (argc == 4 && strcmp(argv[1], "random") == 0)
         random_calls(number_of(argv[2]), number_of(argv[3]));
+    else if (argc == 4 && strcmp(argv[1], "viewer") == 0)
+        viewer_rounds(number_of(argv[2]), number_of(argv[3]));
     else
-        fail("it is `host play IN OUT`, a script of the bench and its answers, or `host random CALLS SEED`");
+        fail("it is `host play IN OUT`, a script of the bench and its answers, `host random CALLS SEED`, or `host viewer ROUNDS SEED`");
     return 0;
 }

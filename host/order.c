@@ -2,11 +2,6 @@
 
 #include "host.h"
 
-uint32_t packets_needed(uint32_t size)
-{
-    return size <= FIRST_PAYLOAD ? 1 : 1 + (size - FIRST_PAYLOAD + LATER_PAYLOAD - 1) / LATER_PAYLOAD;
-}
-
 static bool goes_to_core(uint8_t command)
 {
     return command == CBOR || command == MSG;

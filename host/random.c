@@ -14,10 +14,10 @@ enum { CALM = 300 };
 /* What is lent is mostly as long as it must be, and at times longer. */
 static void choose_lengths(struct host *h)
 {
-    static const size_t needed[SLOTS] = { BQ_BLOCK_SIZE, 0, BQ_PACKET_SIZE, BQ_MESSAGE_SIZE };
-    static const uint32_t spare[SLOTS] = { 32, 1, 64, LARGEST - BQ_MESSAGE_SIZE };
+    static const size_t needed[KEY_SLOTS] = { BQ_BLOCK_SIZE, 0, BQ_PACKET_SIZE, BQ_MESSAGE_SIZE };
+    static const uint32_t spare[KEY_SLOTS] = { 32, 1, 64, LARGEST - BQ_MESSAGE_SIZE };
 
-    for (int slot = 0; slot < SLOTS; slot++)
+    for (int slot = 0; slot < KEY_SLOTS; slot++)
         h->buffers[slot].length = needed[slot] + (chance_one_in(4) ? chance_below(spare[slot]) : 0);
 }
 
@@ -44,7 +44,7 @@ void random_calls(uint64_t calls, uint64_t seed)
 
     chance_seed(seed);
     fail_about("seed", seed);
-    for (int slot = 0; slot < SLOTS; slot++)
+    for (int slot = 0; slot < KEY_SLOTS; slot++)
         chance_fill(h.buffers[slot].bytes, LARGEST);
     choose_lengths(&h);
     make_call(FRESH, &h);
@@ -57,6 +57,8 @@ void random_calls(uint64_t calls, uint64_t seed)
     }
     printf("%" PRIu64 " random calls of seed %" PRIu64 ", all within the rules:\n", calls_made(), seed);
     tally_print();
-    if (calls >= MANY)
-        tally_want_all();
+    if (calls >= MANY) {
+        tally_want_numbers(FRESH, KEY_KINDS);
+        tally_want_replies();
+    }
 }
