@@ -5,7 +5,6 @@ use std::time::Instant;
 use model::bench::Bench;
 use model::trial::program::Program;
 use model::trial::run::{compare, seed_or, Enough};
-use model::trial::script::Script;
 use model::trial::session::Session;
 
 const EVENTS: u64 = 250_000;
@@ -42,16 +41,5 @@ fn the_program_answers_a_line_before_the_next_is_sent() {
         "time 0",
         "show",
     ];
-    let script = Script::answered::<Bench>(lines.map(String::from).to_vec());
-    let expected = String::from_utf8(script.answers).expect("answers are ASCII");
-    let mut expected = expected.lines();
-    let mut session = Session::start(&program());
-    for line in lines {
-        session.send(line);
-        for _ in 0..if line == "show" { 3 } else { 1 } {
-            let answer = session.answer();
-            assert_eq!(Some(&*answer), expected.next(), "the answer to {line}");
-        }
-    }
-    session.end();
+    Session::start(&program()).agrees::<Bench>(&lines);
 }

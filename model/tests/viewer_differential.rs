@@ -4,7 +4,6 @@ use std::time::Instant;
 
 use model::trial::program::Program;
 use model::trial::run::{compare_scripts, seed_or, Enough};
-use model::trial::script::Script;
 use model::trial::session::Session;
 use model::trial::viewer::writer::{events_of, write_script};
 use model::viewer::bench::ViewerBench;
@@ -46,13 +45,5 @@ fn the_program_answers_a_line_before_the_next_is_sent() {
         "apart 00a0",
         "walk 00a10000",
     ];
-    let script = Script::answered::<ViewerBench>(lines.map(String::from).to_vec());
-    let mut session = Session::start(&program());
-    for (line, expected) in lines.iter().zip(script.each()) {
-        session.send(line);
-        for expected in String::from_utf8_lossy(expected).lines() {
-            assert_eq!(session.answer(), expected, "the answer to {line}");
-        }
-    }
-    session.end();
+    Session::start(&program()).agrees::<ViewerBench>(&lines);
 }

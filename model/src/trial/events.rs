@@ -150,10 +150,7 @@ impl Writer {
     }
 
     fn continuation(&mut self, channel: Channel, number: u8) {
-        let mut packet = [0; PACKET];
-        self.random.fill(&mut packet);
-        packet[..4].copy_from_slice(&channel.0.to_be_bytes());
-        packet[4] = number & 0x7F;
+        let packet = self.random.packet(channel, number & 0x7F);
         self.words("packet", &packet);
     }
 

@@ -1,5 +1,7 @@
 //! Random numbers that a seed repeats (SplitMix64).
 
+use crate::packet::{Channel, PACKET};
+
 #[derive(Clone, Debug)]
 pub struct Random(u64);
 
@@ -41,5 +43,14 @@ impl Random {
         for chunk in bytes.chunks_mut(8) {
             chunk.copy_from_slice(&self.number().to_le_bytes()[..chunk.len()]);
         }
+    }
+
+    /// A packet of this channel and byte 4, the rest of it any bytes.
+    pub fn packet(&mut self, channel: Channel, byte_4: u8) -> [u8; PACKET] {
+        let mut packet = [0; PACKET];
+        self.fill(&mut packet);
+        packet[..4].copy_from_slice(&channel.0.to_be_bytes());
+        packet[4] = byte_4;
+        packet
     }
 }

@@ -8,6 +8,8 @@ use std::thread;
 use std::time::Duration;
 
 use super::program::Program;
+use super::script::Script;
+use crate::pipe::OnPipe;
 
 /// How long an answer can take before the program counts as hung.
 const PATIENCE: Duration = Duration::from_secs(20);
@@ -57,6 +59,19 @@ impl Session {
     pub fn ask(&mut self, line: &str) -> String {
         self.send(line);
         self.answer()
+    }
+
+    /// Sends lines one by one, each only after the answer to the one before it has come, which must
+    /// be the model's.
+    pub fn agrees<Model: OnPipe>(mut self, lines: &[&str]) {
+        let script = Script::answered::<Model>(lines.iter().copied().map(String::from).collect());
+        for (line, expected) in lines.iter().zip(script.each()) {
+            self.send(line);
+            for expected in String::from_utf8_lossy(expected).lines() {
+                assert_eq!(self.answer(), expected, "the answer to {line}");
+            }
+        }
+        self.end();
     }
 
     /// Ends the input; there is no answer left, and the program ends well.

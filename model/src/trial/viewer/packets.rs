@@ -147,19 +147,13 @@ impl Writer {
     }
 
     fn opening(&mut self, channel: Channel, command: u8, length: u16) {
-        let mut packet = [0; PACKET];
-        self.random.fill(&mut packet);
-        packet[..4].copy_from_slice(&channel.0.to_be_bytes());
-        packet[4] = command | 0x80;
+        let mut packet = self.random.packet(channel, command | 0x80);
         packet[5..7].copy_from_slice(&length.to_be_bytes());
         self.words("packet", &packet);
     }
 
     fn continuation(&mut self, channel: Channel, number: u8) {
-        let mut packet = [0; PACKET];
-        self.random.fill(&mut packet);
-        packet[..4].copy_from_slice(&channel.0.to_be_bytes());
-        packet[4] = number & 0x7F;
+        let packet = self.random.packet(channel, number & 0x7F);
         self.words("packet", &packet);
     }
 
