@@ -26,9 +26,9 @@ use Rattle.rows.specs.Table.{◌⇒◌else◌}
 use Rattle.state.specs.Order.{gathering_time, in_order}
 use Rattle.state.specs.Answers.{now, within}
 use Rattle.state.proofs.Ordered.{count_in_order, Message}
-use Rattle.state.proofs.Making.{not-init, not_cancel, gathering_made, state_made}
+use Rattle.state.proofs.Making.{not_init, not_cancel, gathering_made, state_made}
 use Rattle.table.specs.Opening.{opening_rows, standing_of}
-use Rattle.machine.specs.Machine.{packet, Turn, quiet, at, beside, completed, taken, carried_out, opening, continuing, packet_rows, lent, rows, step}
+use Rattle.machine.specs.Machine.{packet, Turn, quiet, beside, completed, taken, carried_out, opening, continuing, packet_rows, lent, rows, step}
 use Rattle.machine.specs.Run.{logged, run, sends, quiet_until, ends_in}
 use Rattle.machine.specs.Theorems.{Sending, Gathered, CommandGathered, ApduGathered}
 use Rattle.table.proofs.Verdicts.{good_length}
@@ -110,7 +110,7 @@ module _ (s : State) (c : Channel) (command n : ℕ) (src m : List ℕ) (p : ℕ
         not_broadcast s c q.order q.channel,
         q.channel,
         not_cancel command q.opens,
-        not-init command q.opens,
+        not_init command q.opens,
         q.opens,
         q.size,
       )
