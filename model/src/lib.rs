@@ -13,10 +13,10 @@
 //! `../examples`, and the programs `bench` and `viewer_bench` against the model: table by table, with
 //! faults at places that are known beforehand, and on random scripts of 250,000 and 100,000 events.
 //! Both programs together take thousands of requests on their whole way, from the viewer to the key
-//! and back. It wants the programs that `rt check bench` and `rt check viewer_bench` make at the top
-//! of the repository; `BENCH`, `VIEWER_BENCH` and `BENCH_RUNNER` name others or say how to run them
-//! (see [`trial::program`]). What is random has a fixed seed, which `SEED` replaces. A difference is
-//! reported with the shortest script that shows it.
+//! and back. It wants the programs that `./bench` and `./viewer_bench` make at the top of the
+//! repository when they are first run; `BENCH`, `VIEWER_BENCH` and `BENCH_RUNNER` name others or say
+//! how to run them (see [`trial::program`]). What is random has a fixed seed, which `SEED` replaces.
+//! A difference is reported with the shortest script that shows it.
 //!
 //! `cargo run --release --bin soak -- 600s` (or a number of events) compares for longer, from a seed
 //! of its own unless `SEED` gives one.

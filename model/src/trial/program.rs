@@ -1,15 +1,10 @@
 //! The real programs `bench` and `viewer_bench`.
 //!
-//! `BENCH` names the first; without it, it is `../target/bin/bench` beside this package, where
-//! `rt check bench` at the top of the repository puts it. `VIEWER_BENCH` and `rt check viewer_bench`
-//! are the same for the second. They are programs for x86-64. On another processor `BENCH_RUNNER`
-//! holds the words to put before them; `rt` itself runs them with the emulator, the loader and the
-//! C library of its kit:
-//!
-//! ```sh
-//! kit=$(dirname "$(dirname "$(readlink -f "$(command -v rt)")")")/on/$(uname -m)/toolchain
-//! export BENCH_RUNNER="$kit/bin/qemu-x86_64 $kit/lib/ld-linux-x86-64.so.2 --library-path $kit/lib"
-//! ```
+//! `BENCH` names the first; without it, it is `../crates/bench/out/bench` beside this package, where
+//! `rt ci`, and `rt run` in `crates/bench`, put it. `VIEWER_BENCH` and `../crates/viewer_bench` are
+//! the same for the second. They are programs for x86-64 and Linux, which start by themselves there.
+//! On another processor `BENCH_RUNNER` holds the words to put before them, such as
+//! `qemu-x86_64 -L FOLDER`, where `FOLDER` has the loader and the C library of an x86-64 system.
 
 use std::env;
 use std::io::{self, Read, Write};
@@ -49,13 +44,15 @@ impl Program {
 
     fn find_named(name: &str, variable: &str) -> Result<Program, String> {
         let made_at = Path::new(env!("CARGO_MANIFEST_DIR"))
-            .join("../target/bin")
+            .join("../crates")
+            .join(name)
+            .join("out")
             .join(name);
         let path = env::var_os(variable).map_or(made_at, PathBuf::from);
         if !path.is_file() {
             return Err(format!(
-                "there is no program at {}: run `rt check {name}` at the top of the repository, \
-                 or set {variable} to the program",
+                "there is no program at {}: run `./{name} </dev/null` at the top of the repository, \
+                 which makes it, or set {variable} to the program",
                 path.display()
             ));
         }
