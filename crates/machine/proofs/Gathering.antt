@@ -18,13 +18,12 @@ use Rattle.wire.proofs.Packets.{at_most_129, at_least_1, starts_within}
 use Rattle.wire.proofs.Roundtrips.{roundtrip, put_length}
 use Rattle.wire.proofs.Readings.{puts_its_part, reads_channel, reads_opening, reads_command, reads_length, reads_number, reads_continuation}
 use Rattle.state.specs.declared.Phase.{Phase}
-use Rattle.state.specs.declared.Phase.TheVariants.{Gathering}
+use Rattle.state.specs.Phases.{Gathering}
 use Rattle.state.specs.declared.Work.{Work}
 use Rattle.state.specs.declared.State.{State}
-use Rattle.state.specs.declared.Answer.TheVariants.{Quiet}
 use Rattle.rows.specs.Table.{◌⇒◌else◌}
 use Rattle.state.specs.Order.{gathering_time, in_order}
-use Rattle.state.specs.Answers.{now, within}
+use Rattle.state.specs.Answers.{Quiet, now, within}
 use Rattle.state.proofs.Ordered.{count_in_order, Message}
 use Rattle.state.proofs.Making.{not_init, not_cancel, gathering_made, state_made}
 use Rattle.table.specs.Opening.{opening_rows, standing_of}

@@ -1,0 +1,118 @@
+// The lines of standard input, each answered on standard output once its end is read.
+ghost use Rattle.std.specs.Prelude.{⊤};
+
+use crate::failure::Failure;
+use std::io::{BufRead, BufReader, ErrorKind, Read};
+use std::{io, str};
+
+// What answers the lines.
+pub trait Protocol {
+    // What every answer keeps: it holds before a line and after it.
+    ghost kept: { Self → Type 0 } = { λ _. ⊤ };
+
+    // The answer to a line goes behind what `answer` has. A line that is no line of the protocol changes nothing.
+    fn answer(&mut self, line: &str, answer: &mut String) -> Result<(), Failure>
+        requires { kept self.old }
+        ensures { kept self.new };
+}
+
+// How a line was read.
+#[derive(Clone, Copy, PartialEq, Eq)]
+enum Came {
+    Ended,
+    // Bytes after the last line end.
+    Last,
+    TooLong,
+}
+
+// A line of more than `longest` bytes is not taken, whatever it begins with. It reads only where no whole line waits, so that every line that
+// has come is answered before the program waits for more, and each answer is written with one call. Where a read or a write fails, nothing more
+// is read or written. A proved loop has to end, and nothing says that the input does: so it counts the lines, up to a number that no run reaches.
+pub fn serve<P: Protocol>(
+    rt: &(impl Input + Print + AllocGlobal),
+    longest: u64,
+    protocol: &mut P,
+) -> io::Result<()>
+    requires { P.kept protocol.old }
+    ensures { P.kept protocol.new }
+{
+    let mut input = BufReader::new(rt.alloc(), rt.reader())?;
+    let mut line = Vec::new(rt.alloc());
+    let mut answer = String::new(rt.alloc());
+    'lines: for number in 1..u64::MAX {
+        line.clear();
+        answer.clear();
+        let Some(came) = read_line(&mut input, longest, &mut line)? else {
+            break;
+        };
+        answer_to(protocol, came, number, &line, &mut answer)?;
+        if !answer.is_empty() {
+            rt.write_all(answer.as_bytes())?;
+        }
+        if came == Came::Last {
+            break;
+        }
+    }
+    Ok(())
+}
+
+// A line without its end, behind the bytes that `line` has; of one that is too long no more than `longest` bytes and one. None at the end of input.
+fn read_line(
+    input: &mut impl BufRead,
+    longest: u64,
+    line: &mut Vec<u8>,
+) -> io::Result<Option<Came>> {
+    let n = input
+        .by_ref()
+        .take(longest.saturating_add(1))
+        .read_until(b'\n', line)?;
+    if n == 0 {
+        return Ok(None);
+    }
+    if line.pop_if(|b| *b == b'\n').is_some() {
+        return Ok(Some(Came::Ended));
+    }
+    if (n as u64) <= longest {
+        return Ok(Some(Came::Last));
+    }
+    input.skip_until(b'\n')?;
+    Ok(Some(Came::TooLong))
+}
+
+// `? line N` for a line that is not taken.
+fn answer_to<P: Protocol>(
+    protocol: &mut P,
+    came: Came,
+    number: u64,
+    line: &[u8],
+    answer: &mut String,
+) -> io::Result<()>
+    requires { P.kept protocol.old }
+    ensures { P.kept protocol.new }
+{
+    match taken(protocol, came, line, answer) {
+        Ok(()) => Ok(()),
+        Err(Failure::NotTaken) => {
+            answer.clear();
+            Ok(writeln!(answer, "? line {number}")?)
+        }
+        Err(Failure::OutOfMemory) => Err(ErrorKind::OutOfMemory.into()),
+    }
+}
+
+// An empty line and a remark have no answer.
+fn taken<P: Protocol>(
+    protocol: &mut P,
+    came: Came,
+    line: &[u8],
+    answer: &mut String,
+) -> Result<(), Failure>
+    requires { P.kept protocol.old }
+    ensures { P.kept protocol.new }
+{
+    match (came, line) {
+        (Came::TooLong, _) => Err(Failure::NotTaken),
+        (_, [] | [b'#', ..]) => Ok(()),
+        (_, text) => protocol.answer(str::from_utf8(text).ok().ok_or(Failure::NotTaken)?, answer),
+    }
+}

@@ -1,0 +1,171 @@
+// `serve` between an input and an output that lie in memory.
+use crate::failure::Failure;
+use crate::serving;
+use crate::serving::Protocol;
+use std::alloc::{Allocator, Global};
+use std::cell::{Cell, RefCell};
+use std::fmt::Display;
+use std::io;
+use std::io::{BufRead, ErrorKind, Lines, Read};
+
+// A line of more bytes is not taken.
+const LONGEST: u64 = 8;
+
+// Bytes, then one read that fails if there is an error, and then the end of input, so that a `serve` that read on would end without an error.
+#[derive(Clone, Copy)]
+struct Source<'a> {
+    bytes: &'a [u8],
+    error: Option<ErrorKind>,
+}
+
+impl<'a> Read for Source<'a> {
+    fn read(&mut self, buf: &mut [u8]) -> io::Result<usize> {
+        let mut bytes = self.fill_buf()?;
+        let n = bytes.read(buf)?;
+        self.consume(n);
+        Ok(n)
+    }
+}
+
+impl<'a> BufRead for Source<'a> {
+    fn fill_buf(&mut self) -> io::Result<&[u8]> {
+        if self.bytes.is_empty()
+            && let Some(kind) = self.error.take()
+        {
+            return Err(kind.into());
+        }
+        Ok(self.bytes)
+    }
+
+    fn consume(&mut self, amount: usize) {
+        self.bytes.consume(amount)
+    }
+}
+
+// What is read, what has been written, and how many writes succeed before one fails.
+#[derive(Drop)]
+struct Pipe<'a> {
+    input: Source<'a>,
+    output: RefCell<Vec<u8>>,
+    writes: Cell<usize>,
+    alloc: Global,
+}
+
+impl<'a> Alloc for Pipe<'a> {
+    type A = Global;
+
+    fn alloc(&self) -> Global {
+        self.alloc
+    }
+}
+
+impl<'a> Input for Pipe<'a> {
+    type Reader = Source<'a>;
+
+    fn read_line<A: Allocator + Clone>(&self, buf: &mut String<A>) -> io::Result<usize> {
+        self.reader().read_line(buf)
+    }
+
+    fn lines<A: Allocator>(&self, alloc: A) -> Lines<Source<'a>, A> {
+        self.reader().lines(alloc)
+    }
+
+    fn reader(&self) -> Source<'a> {
+        self.input
+    }
+}
+
+impl<'a> Print for Pipe<'a> {
+    fn print<D: Display + Drop>(&self, _value: D) -> io::Result<()> {
+        Err(ErrorKind::Unsupported.into())
+    }
+
+    fn println<D: Display + Drop>(&self, _value: D) -> io::Result<()> {
+        Err(ErrorKind::Unsupported.into())
+    }
+
+    fn write_all(&self, bytes: &[u8]) -> io::Result<()> {
+        let left = self.writes.get();
+        if left == 0 {
+            return Err(ErrorKind::BrokenPipe.into());
+        }
+        self.writes.set(left - 1);
+        let mut output = self.output.try_borrow_mut().ok().ok_or(ErrorKind::Other)?;
+        Ok(output.extend_from_slice(bytes)?)
+    }
+}
+
+// Gives each line back, but for `no`, which it does not take, and `heap`, for which memory runs out.
+#[derive(Drop)]
+struct Echo;
+
+impl Protocol for Echo {
+    fn answer(&mut self, line: &str, answer: &mut String) -> Result<(), Failure> {
+        writeln!(answer, "{line}")?;
+        match line {
+            "no" => Err(Failure::NotTaken),
+            "heap" => Err(Failure::OutOfMemory),
+            _ => Ok(()),
+        }
+    }
+}
+
+// What is written for an input, which may end in an error, where as many writes succeed, and the error that ends the run.
+fn run(
+    bytes: &[u8],
+    error: Option<ErrorKind>,
+    writes: usize,
+    alloc: Global,
+) -> (Vec<u8>, Option<ErrorKind>) {
+    let pipe = Pipe {
+        input: Source { bytes, error },
+        output: RefCell::new(Vec::new(alloc)),
+        writes: Cell::new(writes),
+        alloc,
+    };
+    let ended = serving::serve(&pipe, LONGEST, &mut Echo);
+    (pipe.output.into_inner(), ended.err().map(|e| e.kind()))
+}
+
+#[test]
+fn lines_are_answered(rt: HostRuntime) {
+    for (input, want) in [
+        (b"".as_slice(), b"".as_slice()),
+        (b"a b\n", b"a b\n"),
+        (b"last", b"last\n"),
+        (b"\n\n", b""),
+        (b"# remark\n#\xFF\n", b""),
+        (b"12345678\n123456789\n", b"12345678\n? line 2\n"),
+        (b"#23456789\nb", b"? line 1\nb\n"),
+        (b"123456789", b"? line 1\n"),
+        (b"no\nyes\n\nno", b"? line 1\nyes\n? line 4\n"),
+        (b"a\r\n", b"a\r\n"),
+        (b"\xC3\x28\n\xC3\xA9\n", b"? line 1\n\xC3\xA9\n"),
+    ] {
+        let (output, error) = run(input, None, usize::MAX, rt.alloc());
+        assert_eq!(rt; output.as_slice(), want, "at {input:?}");
+        assert_eq!(rt; error, None, "at {input:?}");
+    }
+}
+
+// What was answered before stays, and nothing is written after the failure.
+#[test]
+fn a_failure_ends_the_run(rt: HostRuntime) {
+    let (output, error) = run(b"a\nb\nc\n", None, 1, rt.alloc());
+    assert_eq!(rt; output.as_slice(), b"a\n".as_slice());
+    assert_eq!(rt; error, Some(ErrorKind::BrokenPipe));
+    let (output, error) = run(b"a\nheap\nc\n", None, usize::MAX, rt.alloc());
+    assert_eq!(rt; output.as_slice(), b"a\n".as_slice());
+    assert_eq!(rt; error, Some(ErrorKind::OutOfMemory));
+}
+
+// A line of which a part came has no answer, not even one that is known to be too long.
+#[test]
+fn a_failed_read_ends_the_run(rt: HostRuntime) {
+    let failed = Some(ErrorKind::ConnectionReset);
+    for input in [b"a\nb".as_slice(), b"a\n", b"a\n#", b"a\n123456789"] {
+        let (output, error) = run(input, failed, usize::MAX, rt.alloc());
+        assert_eq!(rt; output.as_slice(), b"a\n".as_slice(), "at {input:?}");
+        assert_eq!(rt; error, failed, "at {input:?}");
+    }
+}
