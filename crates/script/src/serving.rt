@@ -17,17 +17,16 @@ pub trait Protocol {
 }
 
 // How a line was read.
-#[derive(Clone, Copy, PartialEq, Eq)]
+#[derive(Clone, Copy)]
 enum Came {
-    Ended,
-    // Bytes after the last line end.
-    Last,
+    Whole,
     TooLong,
 }
 
 // A line of more than `longest` bytes is not taken, whatever it begins with. It reads only where no whole line waits, so that every line that
 // has come is answered before the program waits for more, and each answer is written with one call. Where a read or a write fails, nothing more
-// is read or written. A proved loop has to end, and nothing says that the input does: so it counts the lines, up to a number that no run reaches.
+// is read or written. The end of input is read once: the chain goes on to what is empty, and never back to the reader. A proved loop has to end, and
+// nothing says that the input does: so it counts the lines, up to a number that no run reaches.
 pub fn serve<P: Protocol>(
     rt: &(impl Input + Print + AllocGlobal),
     longest: u64,
@@ -36,7 +35,7 @@ pub fn serve<P: Protocol>(
     requires { P.kept protocol.old }
     ensures { P.kept protocol.new }
 {
-    let mut input = BufReader::new(rt.alloc(), rt.reader())?;
+    let mut input = BufReader::new(rt.alloc(), rt.reader().chain(io::empty()))?;
     let mut line = Vec::new(rt.alloc());
     let mut answer = String::new(rt.alloc());
     'lines: for number in 1..u64::MAX {
@@ -48,9 +47,6 @@ pub fn serve<P: Protocol>(
         answer_to(protocol, came, number, &line, &mut answer)?;
         if !answer.is_empty() {
             rt.write_all(answer.as_bytes())?;
-        }
-        if came == Came::Last {
-            break;
         }
     }
     Ok(())
@@ -69,11 +65,9 @@ fn read_line(
     if n == 0 {
         return Ok(None);
     }
-    if line.pop_if(|b| *b == b'\n').is_some() {
-        return Ok(Some(Came::Ended));
-    }
-    if (n as u64) <= longest {
-        return Ok(Some(Came::Last));
+    let is_ended = line.pop_if(|b| *b == b'\n').is_some();
+    if is_ended || (n as u64) <= longest {
+        return Ok(Some(Came::Whole));
     }
     input.skip_until(b'\n')?;
     Ok(Some(Came::TooLong))

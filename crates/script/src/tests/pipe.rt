@@ -5,17 +5,19 @@ use crate::serving::Protocol;
 use std::alloc::{Allocator, Global};
 use std::cell::{Cell, RefCell};
 use std::fmt::Display;
-use std::io;
 use std::io::{BufRead, ErrorKind, Lines, Read};
+use std::{io, mem};
 
 // A line of more bytes is not taken.
 const LONGEST: u64 = 8;
 
-// Bytes, then one read that fails if there is an error, and then the end of input, so that a `serve` that read on would end without an error.
+// Bytes, then one read that fails if there is an error, and then the end of input, so that a `serve` that read on would end without an error. The
+// end is there once: a read behind it fails.
 #[derive(Clone, Copy)]
 struct Source<'a> {
     bytes: &'a [u8],
     error: Option<ErrorKind>,
+    has_ended: bool,
 }
 
 impl<'a> Read for Source<'a> {
@@ -29,10 +31,14 @@ impl<'a> Read for Source<'a> {
 
 impl<'a> BufRead for Source<'a> {
     fn fill_buf(&mut self) -> io::Result<&[u8]> {
-        if self.bytes.is_empty()
-            && let Some(kind) = self.error.take()
-        {
+        if !self.bytes.is_empty() {
+            return Ok(self.bytes);
+        }
+        if let Some(kind) = self.error.take() {
             return Err(kind.into());
+        }
+        if mem::replace(&mut self.has_ended, true) {
+            return Err(ErrorKind::UnexpectedEof.into());
         }
         Ok(self.bytes)
     }
@@ -118,7 +124,11 @@ fn run(
     alloc: Global,
 ) -> (Vec<u8>, Option<ErrorKind>) {
     let pipe = Pipe {
-        input: Source { bytes, error },
+        input: Source {
+            bytes,
+            error,
+            has_ended: false,
+        },
         output: RefCell::new(Vec::new(alloc)),
         writes: Cell::new(writes),
         alloc,
@@ -141,6 +151,26 @@ fn lines_are_answered(rt: HostRuntime) {
         (b"no\nyes\n\nno", b"? line 1\nyes\n? line 4\n"),
         (b"a\r\n", b"a\r\n"),
         (b"\xC3\x28\n\xC3\xA9\n", b"? line 1\n\xC3\xA9\n"),
+    ] {
+        let (output, error) = run(input, None, usize::MAX, rt.alloc());
+        assert_eq!(rt; output.as_slice(), want, "at {input:?}");
+        assert_eq!(rt; error, None, "at {input:?}");
+    }
+}
+
+// Behind a line's end, behind a line without one, and behind a line that is too long by one byte or by more than is read at once.
+#[test]
+fn the_end_of_input_is_read_once(rt: HostRuntime) {
+    for (input, want) in [
+        (b"".as_slice(), b"".as_slice()),
+        (b"a\n", b"a\n"),
+        (b"a\nlast", b"a\nlast\n"),
+        (b"12345678", b"12345678\n"),
+        (b"123456789", b"? line 1\n"),
+        (b"123456789\n", b"? line 1\n"),
+        (b"1234567890", b"? line 1\n"),
+        (b"1234567890\n", b"? line 1\n"),
+        ([b'z'; 20_000].as_slice(), b"? line 1\n"),
     ] {
         let (output, error) = run(input, None, usize::MAX, rt.alloc());
         assert_eq!(rt; output.as_slice(), want, "at {input:?}");
