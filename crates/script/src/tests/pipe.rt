@@ -1,5 +1,6 @@
 // `serve` between an input and an output that lie in memory.
 use crate::failure::Failure;
+use crate::output::Output;
 use crate::serving;
 use crate::serving::Protocol;
 use std::alloc::{Allocator, Global};
@@ -48,13 +49,28 @@ impl<'a> BufRead for Source<'a> {
     }
 }
 
-// What is read, what has been written, and how many writes succeed before one fails.
+// What is read, what has been written, and how many writes succeed before one fails. Those behind it succeed, so that what is written there shows.
 #[derive(Drop)]
 struct Pipe<'a> {
     input: Source<'a>,
     output: RefCell<Vec<u8>>,
     writes: Cell<usize>,
     alloc: Global,
+}
+
+impl<'a> Pipe<'a> {
+    fn new(bytes: &'a [u8], error: Option<ErrorKind>, writes: usize, alloc: Global) -> Self {
+        Pipe {
+            input: Source {
+                bytes,
+                error,
+                has_ended: false,
+            },
+            output: RefCell::new(Vec::new(alloc)),
+            writes: Cell::new(writes),
+            alloc,
+        }
+    }
 }
 
 impl<'a> Alloc for Pipe<'a> {
@@ -92,10 +108,10 @@ impl<'a> Print for Pipe<'a> {
 
     fn write_all(&self, bytes: &[u8]) -> io::Result<()> {
         let left = self.writes.get();
+        self.writes.set(left.wrapping_sub(1));
         if left == 0 {
             return Err(ErrorKind::BrokenPipe.into());
         }
-        self.writes.set(left - 1);
         let mut output = self.output.try_borrow_mut().ok().ok_or(ErrorKind::Other)?;
         Ok(output.extend_from_slice(bytes)?)
     }
@@ -123,16 +139,7 @@ fn run(
     writes: usize,
     alloc: Global,
 ) -> (Vec<u8>, Option<ErrorKind>) {
-    let pipe = Pipe {
-        input: Source {
-            bytes,
-            error,
-            has_ended: false,
-        },
-        output: RefCell::new(Vec::new(alloc)),
-        writes: Cell::new(writes),
-        alloc,
-    };
+    let pipe = Pipe::new(bytes, error, writes, alloc);
     let ended = serving::serve(&pipe, LONGEST, &mut Echo);
     (pipe.output.into_inner(), ended.err().map(|e| e.kind()))
 }
@@ -176,6 +183,22 @@ fn the_end_of_input_is_read_once(rt: HostRuntime) {
         assert_eq!(rt; output.as_slice(), want, "at {input:?}");
         assert_eq!(rt; error, None, "at {input:?}");
     }
+}
+
+#[test]
+fn the_first_failed_write_is_told(rt: HostRuntime) {
+    let pipe = Pipe::new(b"", None, 1, rt.alloc());
+    let mut output = Output::new(&pipe);
+    output.write(b"a");
+    assert!(rt; !output.has_failed());
+    output.write(b"b");
+    assert!(rt; output.has_failed());
+    output.write(b"c");
+    assert_eq!(rt;
+        output.finish().err().map(|e| e.kind()),
+        Some(ErrorKind::BrokenPipe)
+    );
+    assert_eq!(rt; pipe.output.into_inner().as_slice(), b"a".as_slice());
 }
 
 // What was answered before stays, and nothing is written after the failure.
