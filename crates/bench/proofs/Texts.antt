@@ -1,0 +1,47 @@
+-- How long the texts of `show` are, and what is behind the text that stood there.
+use Rattle.std.proofs.Common.{ℕ, ◌≡◌, ◌+◌, ◌++◌, ◌≤◌, ◌<◌, ◌^◌, List, [], ◌∷◌, length, Result, Ok, Err, refl, sym, ap, ◌∙◌, arith, lit<}
+use Rattle.std.specs.Prelude.{OnOk, decimal}
+use Rattle.std.proofs.lemmas.Fmt.{length-decimal-le}
+use Rattle.std.proofs.lemmas.List.{length-append}
+use Rattle.std.proofs.lemmas.Result.{on_ok_weaker}
+use mathlib.Core.List.{append_assoc}
+use Rattle.state.specs.declared.Transaction.{Transaction}
+use Rattle.state.specs.declared.Phase.{Phase}
+use Rattle.state.specs.declared.Phase.TheVariants.{Idle, Gathering, Waiting, Answering}
+use Rattle.bench.specs.Showing.{spaced, transaction_text, phase_text}
+
+-- three texts, one behind the other, the last of which is written
+pub behind : {T E : Type 0} (r : Result T E) (old a b new s t u : List ℕ) → a ≡ old ++ s → b ≡ a ++ t → OnOk r (new ≡ b ++ u) → OnOk r (new ≡ old ++ (s ++ (t ++ u)))
+behind r old a b new s t u p q h =
+    on_ok_weaker r (λ e. e ∙ ap (λ l. l ++ u) (q ∙ ap (λ l. l ++ t) p) ∙ append_assoc (old ++ s) t u ∙ append_assoc old s (t ++ u)) h
+
+-- a text of at most n bytes behind another
+pub short : {T E : Type 0} (r : Result T E) (old new text : List ℕ) (n : ℕ) → length text ≤ n → OnOk r (new ≡ old ++ text) → OnOk r (length new ≤ length old + n)
+short r old new text n l h = on_ok_weaker r (λ e. omega (arith, ap length e, length-append old text, l)) h
+
+-- numbers of so many bits
+abbrev pub Typed : Transaction → Type 0
+Typed t = (t.holder.0 < 2 ^ 32) × (t.command < 2 ^ 8) × (t.size < 2 ^ 64)
+
+pub transaction_short : (t : Transaction) → Typed t → length (transaction_text t) ≤ 35
+transaction_short t w =
+    let h = length-decimal-le 10 t.holder.0 (lit< tt) (omega (arith, w.0)) (omega (arith, w.0)) in
+    let k = length-decimal-le 3 t.command (lit< tt) (omega (arith, w.1)) (omega (arith, w.1)) in
+    let n = length-decimal-le 20 t.size (lit< tt) (omega (arith, w.2)) w.2 in
+    omega (arith, h, k, n, length-append (decimal t.holder.0) (spaced t.command ++ spaced t.size), length-append (spaced t.command) (spaced t.size))
+
+-- the transaction's text where its numbers are known to be typed
+pub transaction_bound : {T E : Type 0} (r : Result T E) (old new : List ℕ) (t : Transaction) → t.holder.0 < 2 ^ 32 → t.command < 2 ^ 8 → t.size < 2 ^ 64 → OnOk r (new ≡ old ++ transaction_text t) → OnOk r (length new ≤ length old + 35)
+transaction_bound r old new t a b c h = short r old new (transaction_text t) 35 (transaction_short t (a, b, c)) h
+
+-- a phase that has numbers behind its transaction: its name s has 11 bytes
+pub gathering_bound : {T E : Type 0} (r : Result T E) (old s a b new : List ℕ) (done left : ℕ) → done < 2 ^ 64 → left < 2 ^ 32 → length s ≡ 11 → a ≡ old ++ s → length b ≤ length a + 35 → OnOk r (new ≡ b ++ (spaced done ++ spaced left)) → OnOk r (length new ≤ length old + 78)
+gathering_bound r old s a b new done left d l x e y h =
+    let n = length-decimal-le 20 done (lit< tt) (omega (arith, d)) d in
+    let k = length-decimal-le 10 left (lit< tt) (omega (arith, l)) (omega (arith, l)) in
+    on_ok_weaker r (λ f. omega (arith, ap length f, length-append b (spaced done ++ spaced left), length-append (spaced done) (spaced left), n, k, ap length e, length-append old s, x, y)) h
+
+pub answering_bound : {T E : Type 0} (r : Result T E) (old s a b new : List ℕ) (done : ℕ) → done < 2 ^ 64 → length s ≡ 11 → a ≡ old ++ s → length b ≤ length a + 35 → OnOk r (new ≡ b ++ spaced done) → OnOk r (length new ≤ length old + 78)
+answering_bound r old s a b new done d x e y h =
+    let n = length-decimal-le 20 done (lit< tt) (omega (arith, d)) d in
+    on_ok_weaker r (λ f. omega (arith, ap length f, length-append b (spaced done), n, ap length e, length-append old s, x, y)) h
