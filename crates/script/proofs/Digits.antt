@@ -1,8 +1,9 @@
--- The digits of bytes are ASCII, and so text.
-use Rattle.std.proofs.Common.{ℕ, ◌≡◌, ◌∷◌, [], List, true, nat_lt, refl}
+-- The digits of bytes: how two are made at once, and that they are text.
+use Rattle.std.proofs.Common.{ℕ, ◌≡◌, ◌+◌, ◌*◌, ◌/◌, ◌%◌, ◌<◌, ◌∷◌, ◌==◌, ◌&&◌, [], zero, suc, List, Bool, true, inl, inr, nat_lt, bit_and, slice_index, w16, refl, arith}
 use Rattle.std.specs.List.{list_all}
+use Rattle.std.specs.Int.{to_le_bytes}
 use Rattle.std.specs.Str.{IsAscii, IsUtf8}
-use Rattle.std.proofs.lemmas.Bool.{and_parts}
+use Rattle.std.proofs.lemmas.Bool.{and_parts, cases_lt, eqb-true}
 use Rattle.std.proofs.lemmas.Str.{IsUtf8-from_ascii}
 use Rattle.std.proofs.lemmas.Str.Ascii.{IsAscii-nil, IsAscii-cons}
 use Rattle.hex.specs.Hex.{encode_lower, lower_digits}
@@ -17,3 +18,37 @@ ascii_from (b ∷ bs) h =
 
 pub digits_are_text : (bytes : List ℕ) → IsUtf8 (encode_lower bytes)
 digits_are_text bytes = IsUtf8-from_ascii (encode_lower bytes) (IsAscii-encode_with lower_digits bytes (ascii_from lower_digits refl))
+
+-- the number that the code makes of a byte
+abbrev halves : ℕ → ℕ
+halves byte = byte / 16 + bit_and byte 15 * 256
+
+abbrev pub both : ℕ → ℕ
+both byte = halves byte + 12336 + bit_and ((halves byte + 1542) / 16) 257 * 39
+
+-- the test of one byte, and of the first n, which compute
+abbrev is_pair : ℕ → Bool
+is_pair byte = (both byte % 256 == slice_index lower_digits (byte / 16)) && (both byte / 256 % 256 == slice_index lower_digits (byte % 16))
+
+abbrev all_pairs : ℕ → Bool
+all_pairs zero = true
+all_pairs (suc n) = is_pair n && all_pairs n
+
+pair_below : (n byte : ℕ) → all_pairs n ≡ true → byte < n → is_pair byte ≡ true
+pair_below zero byte h l = absurd (omega arith)
+pair_below (suc n) byte h l =
+    let parts = and_parts (is_pair n) (all_pairs n) h in
+    elim (cases_lt byte n) [
+      | inl below ↦ pair_below n byte parts.1 below
+      | inr top ↦
+          let e : byte ≡ n = omega arith in
+          rw e parts.0
+    ]
+
+-- it is the two digits
+pub pair_is : (byte : ℕ) → byte < 256 → to_le_bytes w16 (both byte) ≡ slice_index lower_digits (byte / 16) ∷ slice_index lower_digits (byte % 16) ∷ []
+pair_is byte l =
+    let parts = and_parts _ _ (pair_below 256 byte refl l) in
+    let high = eqb-true _ _ parts.0 in
+    let low = eqb-true _ _ parts.1 in
+    λ i. high i ∷ low i ∷ []

@@ -1,5 +1,5 @@
 // Lines of an answer that end with bytes, in hex of lower case.
-ghost use Rattle.std.specs.Prelude.{◌≡◌, ◌++◌, ◌∷◌, ◌*◌, ◌<◌, [], IfOk, OnOk, length, slice_index, string_bytes};
+ghost use Rattle.std.specs.Prelude.{◌≡◌, ◌++◌, ◌∷◌, ◌*◌, ◌/◌, ◌%◌, ◌<◌, [], IfOk, OnOk, length, slice_index, string_bytes};
 ghost use Rattle.hex.specs.Hex.{encode_lower, lower_digits};
 
 use std::alloc::{AllocError, Global};
@@ -39,15 +39,19 @@ fn write_digits(bytes: &[u8], digits: &mut [u8])
     ensures { digits.new ≡ encode_lower bytes.now }
 {
     'bytes: for i in 0..bytes.len() {
-        digits[2 * i] = digit(bytes[i] >> 4);
-        digits[2 * i + 1] = digit(bytes[i] & 15);
+        let pair = pair_of(bytes[i]);
+        digits[2 * i] = pair[0];
+        digits[2 * i + 1] = pair[1];
     }
 }
 
-// The compiler makes several of these at once.
-fn digit(n: u8) -> u8
-    requires { n < 16 }
-    ensures { result ≡ slice_index lower_digits n }
+// The two digits of a byte. They are made as one number, whose halves each hold four bits: the compiler then makes those of several bytes at once.
+fn pair_of(byte: u8) -> [u8; 2]
+    ensures { result ≡ slice_index lower_digits (byte / 16) ∷ slice_index lower_digits (byte % 16) ∷ [] }
 {
-    n + b'0' + if n < 10 { 0 } else { b'a' - 10 - b'0' }
+    let halves = (byte >> 4) as u16 + (byte & 15) as u16 * 0x100;
+    // 1 in each half that is above 9, and so a letter.
+    let letters = (halves + 0x0606) >> 4 & 0x0101;
+    let apart = (b'a' - b'0' - 10) as u16;
+    (halves + 0x3030 + letters * apart).to_le_bytes()
 }
