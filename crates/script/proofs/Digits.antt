@@ -1,13 +1,15 @@
 -- The digits of bytes: how two are made at once, and that they are text.
-use Rattle.std.proofs.Common.{ℕ, ◌≡◌, ◌+◌, ◌*◌, ◌/◌, ◌%◌, ◌<◌, ◌∷◌, ◌==◌, ◌&&◌, [], zero, suc, List, Bool, true, inl, inr, nat_lt, bit_and, slice_index, w16, refl, arith}
+use Rattle.std.proofs.Common.{ℕ, ◌≡◌, ◌≤◌, ◌++◌, length, drop, append_assoc, ◌+◌, ◌*◌, ◌/◌, ◌%◌, ◌<◌, ◌∷◌, ◌==◌, ◌&&◌, [], zero, suc, List, Bool, true, inl, inr, nat_lt, bit_and, slice_index, w16, refl, arith}
 use Rattle.std.specs.List.{list_all}
 use Rattle.std.specs.Int.{to_le_bytes}
 use Rattle.std.specs.Str.{IsAscii, IsUtf8}
 use Rattle.std.proofs.lemmas.Bool.{and_parts, cases_lt, eqb-true}
 use Rattle.std.proofs.lemmas.Str.{IsUtf8-from_ascii}
 use Rattle.std.proofs.lemmas.Str.Ascii.{IsAscii-nil, IsAscii-cons}
-use Rattle.hex.specs.Hex.{encode_lower, lower_digits}
+use Rattle.std.proofs.lemmas.List.{append-nil, drop_all}
+use Rattle.hex.specs.Hex.{encode_lower, encode_with, lower_digits}
 use Rattle.hex.proofs.HexLemmas.{IsAscii-encode_with}
+use Rattle.hex.proofs.Pairs.{encode_with-drop}
 use borrow.Author.Tests.{ltb-true}
 
 ascii_from : (bs : List ℕ) → list_all (λ b. nat_lt b 128) bs ≡ true → IsAscii bs
@@ -52,3 +54,18 @@ pair_is byte l =
     let high = eqb-true _ _ parts.0 in
     let low = eqb-true _ _ parts.1 in
     λ i. high i ∷ low i ∷ []
+
+-- those of one byte more are behind the ones that were written
+pub pair_more : (bytes was : List ℕ) (i high low : ℕ) → i < length bytes → high ≡ slice_index lower_digits (slice_index bytes i / 16)
+    → low ≡ slice_index lower_digits (slice_index bytes i % 16) → was ++ encode_lower (drop i bytes) ≡ encode_lower bytes
+    → ((was ++ high ∷ []) ++ low ∷ []) ++ encode_lower (drop (i + 1) bytes) ≡ encode_lower bytes
+pair_more bytes was i high low l eh el so_far =
+    let rest = encode_with-drop lower_digits bytes i l in
+    rw (append_assoc, append_assoc, eh, el) (rw rest at so_far)
+
+-- no byte is left
+pub no_more : (bytes was : List ℕ) (i : ℕ) → length bytes ≤ i → was ++ encode_lower (drop i bytes) ≡ encode_lower bytes → was ≡ encode_lower bytes
+unfolding encode_with
+no_more bytes was i l so_far =
+    let none = drop_all i bytes l in
+    rw (none, append-nil) at so_far

@@ -29,20 +29,13 @@ pub fn line_or_dash(words: &str, bytes: &[u8], to: &mut String) -> Result<(), Al
 fn digits_of(bytes: &[u8], alloc: Global) -> Result<String, AllocError>
     ensures { IfOk result (λ digits. string_bytes digits ≡ encode_lower bytes.now) }
 {
-    let mut digits = vec![in alloc; 0u8; 2 * bytes.len()]?;
-    write_digits(bytes, &mut digits);
-    Ok(String::from_utf8(digits).unwrap())
-}
-
-fn write_digits(bytes: &[u8], digits: &mut [u8])
-    requires { length digits.old ≡ 2 * length bytes.now }
-    ensures { digits.new ≡ encode_lower bytes.now }
-{
+    let mut digits = Vec::with_capacity(alloc, 2 * bytes.len())?;
     'bytes: for i in 0..bytes.len() {
         let pair = pair_of(bytes[i]);
-        digits[2 * i] = pair[0];
-        digits[2 * i + 1] = pair[1];
+        digits.push_reserved(pair[0]);
+        digits.push_reserved(pair[1]);
     }
+    Ok(String::from_utf8(digits).unwrap())
 }
 
 // The two digits of a byte. They are made as one number, whose halves each hold four bits: the compiler then makes those of several bytes at once.

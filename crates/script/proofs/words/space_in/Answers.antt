@@ -1,4 +1,4 @@
-use Rattle.std.proofs.Common.{ℕ, List, Option, Some, None, MatchOption, IfSome, slice_index, ◌≡◌, ◌<◌, ◌+◌, length, lit<, arith, rules}
+use Rattle.std.proofs.Common.{ℕ, List, Option, Some, None, MatchOption, IfSome, slice_index, ◌≡◌, ◌<◌, ◌+◌, length, lit<, arith}
 use Rattle.std.specs.Str.{IsUtf8, IsCharBoundary}
 use Rattle.std.proofs.lemmas.Str.{IsCharBoundary-after_ascii}
 use Rattle.std.proofs.lemmas.Str.Pattern.{find_char}

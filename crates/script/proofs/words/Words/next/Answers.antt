@@ -1,4 +1,4 @@
-use Rattle.std.proofs.Common.{ℕ, List, ◌≡◌, ◌∷◌, ◌-◌, take, sym, ap, ◌∙◌, arith}
+use Rattle.std.proofs.Common.{◌≡◌, ◌∷◌, ◌-◌, take, sym, ap, ◌∙◌, arith}
 use Rattle.script.specs.Words.{words_in, words_of}
 use Rattle.script.proofs.Steps.{one_word, first_word}
 use Rattle.script.proofs.words.Words.next.Goals as goal
