@@ -1,19 +1,11 @@
--- How long the texts of `show` are, and what is behind the text that stood there.
-use Rattle.std.proofs.Common.{ℕ, ◌≡◌, ◌+◌, ◌++◌, ◌≤◌, ◌<◌, ◌^◌, List, [], ◌∷◌, length, Result, Ok, Err, refl, sym, ap, ◌∙◌, arith, lit<}
+-- How long the texts of `show` are.
+use Rattle.std.proofs.Common.{ℕ, ◌≡◌, ◌+◌, ◌++◌, ◌≤◌, ◌<◌, ◌^◌, List, length, Result, ap, arith, lit<}
 use Rattle.std.specs.Prelude.{OnOk, decimal}
 use Rattle.std.proofs.lemmas.Fmt.{length-decimal-le}
 use Rattle.std.proofs.lemmas.List.{length-append}
 use Rattle.std.proofs.lemmas.Result.{on_ok_weaker}
-use mathlib.Core.List.{append_assoc}
 use Rattle.state.specs.declared.Transaction.{Transaction}
-use Rattle.state.specs.declared.Phase.{Phase}
-use Rattle.state.specs.declared.Phase.TheVariants.{Idle, Gathering, Waiting, Answering}
-use Rattle.bench.specs.Showing.{spaced, transaction_text, phase_text}
-
--- three texts, one behind the other, the last of which is written
-pub behind : {T E : Type 0} (r : Result T E) (old a b new s t u : List ℕ) → a ≡ old ++ s → b ≡ a ++ t → OnOk r (new ≡ b ++ u) → OnOk r (new ≡ old ++ (s ++ (t ++ u)))
-behind r old a b new s t u p q h =
-    on_ok_weaker r (λ e. e ∙ ap (λ l. l ++ u) (q ∙ ap (λ l. l ++ t) p) ∙ append_assoc (old ++ s) t u ∙ append_assoc old s (t ++ u)) h
+use Rattle.bench.specs.Showing.{spaced, transaction_text}
 
 -- a text of at most n bytes behind another
 pub short : {T E : Type 0} (r : Result T E) (old new text : List ℕ) (n : ℕ) → length text ≤ n → OnOk r (new ≡ old ++ text) → OnOk r (length new ≤ length old + n)
