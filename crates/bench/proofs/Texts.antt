@@ -26,14 +26,15 @@ transaction_short t w =
 pub transaction_bound : {T E : Type 0} (r : Result T E) (old new : List ℕ) (t : Transaction) → t.holder.0 < 2 ^ 32 → t.command < 2 ^ 8 → t.size < 2 ^ 64 → OnOk r (new ≡ old ++ transaction_text t) → OnOk r (length new ≤ length old + 35)
 transaction_bound r old new t a b c h = short r old new (transaction_text t) 35 (transaction_short t (a, b, c)) h
 
--- a phase that has numbers behind its transaction: its name s has 11 bytes
-pub gathering_bound : {T E : Type 0} (r : Result T E) (old s a b new : List ℕ) (done left : ℕ) → done < 2 ^ 64 → left < 2 ^ 32 → length s ≡ 11 → a ≡ old ++ s → length b ≤ length a + 35 → OnOk r (new ≡ b ++ (spaced done ++ spaced left)) → OnOk r (length new ≤ length old + 78)
-gathering_bound r old s a b new done left d l x e y h =
-    let n = length-decimal-le 20 done (lit< tt) (omega (arith, d)) d in
-    let k = length-decimal-le 10 left (lit< tt) (omega (arith, l)) (omega (arith, l)) in
-    on_ok_weaker r (λ f. omega (arith, ap length f, length-append b (spaced done ++ spaced left), length-append (spaced done) (spaced left), n, k, ap length e, length-append old s, x, y)) h
+-- the numbers behind a transaction
+pub one_number : (n : ℕ) → n < 2 ^ 64 → length (spaced n) ≤ 21
+one_number n l = omega (arith, length-decimal-le 20 n (lit< tt) (omega (arith, l)) l)
 
-pub answering_bound : {T E : Type 0} (r : Result T E) (old s a b new : List ℕ) (done : ℕ) → done < 2 ^ 64 → length s ≡ 11 → a ≡ old ++ s → length b ≤ length a + 35 → OnOk r (new ≡ b ++ spaced done) → OnOk r (length new ≤ length old + 78)
-answering_bound r old s a b new done d x e y h =
-    let n = length-decimal-le 20 done (lit< tt) (omega (arith, d)) d in
-    on_ok_weaker r (λ f. omega (arith, ap length f, length-append b (spaced done), n, ap length e, length-append old s, x, y)) h
+pub two_numbers : (done left : ℕ) → done < 2 ^ 64 → left < 2 ^ 32 → length (spaced done ++ spaced left) ≤ 32
+two_numbers done left d l =
+    let k = length-decimal-le 10 left (lit< tt) (omega (arith, l)) (omega (arith, l)) in
+    omega (arith, one_number done d, k, length-append (spaced done) (spaced left))
+
+-- a phase that has numbers u behind its transaction: its name s has 11 bytes
+pub phase_bound : {T E : Type 0} (r : Result T E) (old s a b new u : List ℕ) → length s ≡ 11 → length u ≤ 32 → a ≡ old ++ s → length b ≤ length a + 35 → OnOk r (new ≡ b ++ u) → OnOk r (length new ≤ length old + 78)
+phase_bound r old s a b new u x n e y h = on_ok_weaker r (λ f. omega (arith, f, ap length e, length-append old s, x, y)) (short r b new u 32 n h)
